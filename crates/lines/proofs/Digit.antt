@@ -1,0 +1,52 @@
+-- A line is a binary digit: the laws of one line, and of a number made from its lines. Assumes nothing.
+use mathlib.Core.Path.{_≡_, refl, sym, ap, _∙_}
+use Prim.Native.Nat.{ℕ, zero, suc, _+_, _*_, _/_, _%_, _^_, _≤_, _<_, min, max}
+use native.Mathlib.Nat.{one-mul, mod-lt, two-pow-succ, zero-lt-suc, div-one, add-comm}
+use native.Mathlib.Numerals.{add-one, one-add}
+use native.Mathlib.Omega.{arith}
+use lib.Bits.{bitAnd, bitOr, and-step, or-step, and-shr, or-shr}
+use lib.Dec.{lit<}
+use lib.Pow.{shl-exact, shr-shr}
+use Rattle.lines.specs.Line.{line, fromLines}
+
+pub bit-lt : (x : ℕ) → x % 2 < 2
+bit-lt x = mod-lt x (zero-lt-suc 1)
+
+-- the lines from line i up: what is left when line i is taken is the lines from i + 1 up
+pub next-lines : (x i : ℕ) → x / 2 ^ i / 2 ≡ x / 2 ^ suc i
+next-lines x i = shr-shr x i 1 ∙ ap (λ (j : ℕ). x / 2 ^ j) (add-one i)
+
+-- the lines of half a sample are the sample's, one line down
+pub line-half : (x i : ℕ) → line x (suc i) ≡ line (x / 2) i
+line-half x i = ap (λ (q : ℕ). q % 2) (sym (shr-shr x 1 i ∙ ap (λ (j : ℕ). x / 2 ^ j) (one-add i)))
+
+pub line-zero : (x : ℕ) → line x 0 ≡ x % 2
+line-zero x = ap (λ (q : ℕ). q % 2) (div-one x)
+
+-- line j + m of a sample is line j of the sample shifted down by m
+pub line-up : (x j m : ℕ) → line x (j + m) ≡ line (x / 2 ^ m) j
+line-up x j m = ap (λ (i : ℕ). x / 2 ^ i % 2) (add-comm j m) ∙ ap (λ (y : ℕ). y % 2) (sym (shr-shr x m j))
+
+-- a line of the AND and of the OR of two numbers
+pub line-and : (a b i : ℕ) → line (bitAnd a b) i ≡ min (line a i) (line b i)
+line-and a b i = rw (and-shr a b i) (omega (arith, and-step (a / 2 ^ i) (b / 2 ^ i)))
+
+pub line-or : (a b i : ℕ) → line (bitOr a b) i ≡ max (line a i) (line b i)
+line-or a b i = rw (or-shr a b i) (omega (arith, or-step (a / 2 ^ i) (b / 2 ^ i)))
+
+-- 1 << i in a word of w bits
+pub shifted-one : (i w : ℕ) → i < w → 1 * 2 ^ i % 2 ^ w ≡ 2 ^ i
+shifted-one i w h = shl-exact 1 i w (lit< tt) (omega arith) ∙ one-mul (2 ^ i)
+
+-- the number with the given lines
+pub from-lines : (n x : ℕ) (f : ℕ → ℕ) → ((i : ℕ) → i < n → f i ≡ line x i) → x < 2 ^ n → fromLines n f ≡ x
+unfolding fromLines
+from-lines zero x f h l = omega arith
+from-lines (suc n) x f h l =
+    let rest = from-lines n (x / 2) (λ i. f (suc i)) (λ i k. h (suc i) (omega arith) ∙ line-half x i) (omega (arith, two-pow-succ n)) in
+    let bit = h 0 (omega arith) ∙ line-zero x in
+    omega arith
+
+-- two numbers with the same lines are the same
+pub lines-same : (n x y : ℕ) → x < 2 ^ n → y < 2 ^ n → ((i : ℕ) → i < n → line x i ≡ line y i) → x ≡ y
+lines-same n x y hx hy h = sym (from-lines n x (line x) (λ i l. refl) hx) ∙ from-lines n y (line x) h hy

@@ -1,0 +1,11 @@
+pub mod Truth
+pub mod Computed
+pub mod Digit
+pub mod Over
+pub mod Ones
+pub mod Gathering
+pub mod Scattering
+pub mod Drop
+pub mod Flip
+pub mod Fill
+pub mod Compare

@@ -1,0 +1,32 @@
+-- How many of the lowest lines are masked. Assumes nothing.
+use mathlib.Core.Path.{_≡_, refl, sym, ap, _∙_}
+use Prim.Native.Nat.{ℕ, zero, suc, _+_, _/_, _%_, _^_, _≤_, _<_}
+use native.Mathlib.Nat.{mod-lt, two-pow-succ}
+use native.Mathlib.Numerals.{add-one}
+use native.Mathlib.Omega.{arith}
+use lib.Pow.{pow-pos, mod-mod-pow, field}
+use lib.Count.{ones, onesIn, ones-step}
+
+-- of a mask that has n lines, all masked lines are among the n lowest
+pub ones-in : (n mask : ℕ) → mask < 2 ^ n → onesIn n mask ≡ ones mask
+unfolding onesIn ones
+ones-in zero mask h = ap ones (let z : 0 ≡ mask = omega arith in z)
+ones-in (suc n) mask h =
+    ap (λ (k : ℕ). mask % 2 + k) (ones-in n (mask / 2) (omega (arith, two-pow-succ n))) ∙ sym (ones-step mask)
+
+pub ones-in-le : (n mask : ℕ) → onesIn n mask ≤ n
+unfolding onesIn
+ones-in-le zero mask = omega arith
+ones-in-le (suc n) mask = let ih = ones-in-le n (mask / 2) in omega arith
+
+-- the masked ones of the i lowest lines, cut off
+ones-cut : (i mask : ℕ) → onesIn i (mask % 2 ^ i) ≡ onesIn i mask
+unfolding onesIn
+ones-cut zero m = refl
+ones-cut (suc i) m =
+    let bit : m % 2 ^ suc i % 2 ≡ m % 2 = ap (λ (j : ℕ). m % 2 ^ j % 2) (sym (add-one i)) ∙ mod-mod-pow m i 1 in
+    let rest : m % 2 ^ suc i / 2 ≡ m / 2 % 2 ^ i = ap (λ (j : ℕ). m % 2 ^ j / 2) (sym (add-one i)) ∙ field m i 1 in
+    rw (bit, rest, ones-cut i (m / 2))
+
+pub ones-below : (i mask : ℕ) → ones (mask % 2 ^ i) ≡ onesIn i mask
+ones-below i mask = sym (ones-in i (mask % 2 ^ i) (mod-lt mask (pow-pos i))) ∙ ones-cut i mask

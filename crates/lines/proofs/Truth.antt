@@ -1,0 +1,57 @@
+-- What tests say: a conjunction's parts, two tests that agree, and `a || b`, `a && b` as code computes them. Assumes nothing.
+use mathlib.Core.Path.{_≡_, refl, sym, _∙_}
+use mathlib.Core.Bool.{Bool, true, false, _&&_, _||_, Bool·beq, true≢false}
+use lib.Dec.{T}
+
+pub and-left : (a b : Bool) → T (a && b) → T a
+and-left true b t = tt
+and-left false b t = t
+
+pub and-right : (a b : Bool) → T (a && b) → T b
+and-right true b t = t
+and-right false b t = absurd t
+
+pub agree : (a b : Bool) → T (Bool·beq a b) → a ≡ b
+agree true true t = refl
+agree true false t = absurd t
+agree false true t = absurd t
+agree false false t = refl
+
+pub T-true : (b : Bool) → b ≡ true → T b
+T-true true e = tt
+T-true false e = absurd (true≢false (sym e))
+
+pub true-T : (b : Bool) → T b → b ≡ true
+true-T true t = refl
+true-T false t = absurd t
+
+-- both parts of a true conjunction
+pub both-true : (a b : Bool) → a && b ≡ true → (a ≡ true) × (b ≡ true)
+both-true true b e = (refl, e)
+both-true false b e = absurd (true≢false (sym e))
+
+pub or-false : (b : Bool) → b || false ≡ b
+or-false true = refl
+or-false false = refl
+
+pub or-true : (b : Bool) → b || true ≡ true
+or-true true = refl
+or-true false = refl
+
+-- a || b as the code computes it: the first test is true, or it is false and the second one decides
+pub or-first : (a b x : Bool) → x ≡ true → x ≡ a → x ≡ a || b
+or-first true b x p q = p
+or-first false b x p q = absurd (true≢false (sym p ∙ q))
+
+pub or-second : (a b x y : Bool) → y ≡ false → y ≡ a → x ≡ b → x ≡ a || b
+or-second true b x y p q r = absurd (true≢false (sym q ∙ p))
+or-second false b x y p q r = r
+
+-- a && b as the code computes it
+pub and-first : (a b x : Bool) → x ≡ false → x ≡ a → x ≡ a && b
+and-first true b x p q = absurd (true≢false (sym q ∙ p))
+and-first false b x p q = p
+
+pub and-second : (a b x y : Bool) → y ≡ true → y ≡ a → x ≡ b → x ≡ a && b
+and-second true b x y p q r = r
+and-second false b x y p q r = absurd (true≢false (sym p ∙ q))

@@ -1,0 +1,68 @@
+// The 32 lines of a sample: one line, the masked lines packed into a number, and a number put back on the masked lines.
+// Promises: each call equals its definition in specs/, for any numbers; the laws of digits, lines and computed tests stand in proofs/.
+// Rests on: nothing.
+ghost use mathlib.Core.Path.{_≡_};
+ghost use Rattle.lines.specs.Line.{line};
+ghost use Rattle.lines.specs.Gather.{gathered, scattered, dropLowest};
+ghost use lib.Count.{onesIn};
+
+// The value of line i of x. A u32 has 32 lines; any other is 0.
+pub fn line_value(x: u32, i: u32) -> u32
+    ensures { λ r. ⌜ r ≡ line x i ⌝ }
+{
+    if i < 32 { (x >> i) & 1 } else { 0 }
+}
+
+// The masked lines of the sample, packed into a number: the lowest masked line is bit 0.
+// The lines are taken from the highest down, so that each masked line goes in at bit 0.
+pub fn gather(sample: u32, mask: u32) -> u32
+    ensures { λ r. ⌜ r ≡ gathered 32 sample mask ⌝ }
+{
+    let mut packed: u32 = 0;
+    let mut i: u32 = 32;
+    while 0 < i {
+        i -= 1;
+        if line_value(mask, i) == 1 {
+            packed = (packed << 1) | line_value(sample, i);
+        }
+    }
+    packed
+}
+
+// The bits of the value put on the masked lines: bit 0 on the lowest masked line. Every other line is 0.
+pub fn scatter(value: u32, mask: u32) -> u32
+    ensures { λ r. ⌜ r ≡ scattered 32 value mask ⌝ }
+{
+    let mut spread: u32 = 0;
+    let mut rest = value;
+    let mut i: u32 = 0;
+    while i < 32 {
+        if line_value(mask, i) == 1 {
+            spread = spread | ((rest & 1) << i);
+            rest = rest >> 1;
+        }
+        i += 1;
+    }
+    spread
+}
+
+// The mask without its lowest masked line.
+pub fn drop_lowest(mask: u32) -> u32
+    ensures { λ r. ⌜ r ≡ dropLowest 32 mask ⌝ }
+{
+    if mask == 0 {
+        return 0;
+    }
+    mask & (mask - 1)
+}
+
+// How many lines below line i are masked.
+pub fn rank(mask: u32, i: u32) -> u32
+    ensures { λ r. ⌜ r ≡ onesIn i mask ⌝ }
+{
+    if i < 32 {
+        u32::count_ones(mask % (1u32 << i))
+    } else {
+        u32::count_ones(mask)
+    }
+}
