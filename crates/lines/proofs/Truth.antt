@@ -1,7 +1,10 @@
 -- What tests say: a conjunction's parts, two tests that agree, and `a || b`, `a && b` as code computes them. Assumes nothing.
 use mathlib.Core.Path.{_≡_, refl, sym, _∙_}
 use mathlib.Core.Bool.{Bool, true, false, _&&_, _||_, Bool·beq, true≢false}
-use lib.Dec.{T}
+use Prim.Native.Nat.{ℕ}
+use native.Mathlib.Decide.{ℕ-discrete}
+use borrow.Author.Tests.{eq-eqb, ne-eqb}
+use lib.Dec.{T, eqb}
 
 pub and-left : (a b : Bool) → T (a && b) → T a
 and-left true b t = tt
@@ -55,3 +58,11 @@ and-first false b x p q = p
 pub and-second : (a b x y : Bool) → y ≡ true → y ≡ a → x ≡ b → x ≡ a && b
 and-second true b x y p q r = r
 and-second false b x y p q r = absurd (true≢false (sym p ∙ q))
+
+-- two tests of equality that hold together are equal
+pub eqb-iff : (x y u v : ℕ) → (x ≡ y → u ≡ v) → (u ≡ v → x ≡ y) → eqb x y ≡ eqb u v
+eqb-iff x y u v f g = go (ℕ-discrete x y)
+  where
+    go : Dec (x ≡ y) → eqb x y ≡ eqb u v
+    go (yes p) = eq-eqb x y p ∙ sym (eq-eqb u v (f p))
+    go (no n) = ne-eqb x y n ∙ sym (ne-eqb u v (λ q. n (g q)))

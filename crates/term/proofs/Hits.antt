@@ -1,0 +1,98 @@
+-- The model over the words of a pattern hits exactly where the plain rule does. Assumes nothing.
+use mathlib.Core.Path.{_≡_, refl, sym, ap, ap₂, _∙_}
+use mathlib.Core.Bool.{Bool, true, _&&_, and-assoc, and-comm, Bool·beq}
+use mathlib.Core.List.{List, [], _∷_}
+use Prim.Native.Nat.{ℕ, zero, suc, _+_, _*_, _/_, _%_, _^_, _<_}
+use native.Mathlib.Omega.{arith}
+use lib.Bits.{bitAnd, bitXor}
+use lib.Dec.{eqb}
+use lib.ListN.{length, getD}
+use Rattle.lines.specs.Line.{line, overLines}
+use Rattle.lines.proofs.Computed.{nibbles, every-within}
+use Rattle.lines.proofs.Over.{lines-cong}
+use Rattle.lines.proofs.Truth.{agree}
+use Rattle.lut.specs.Table.{answerAt, high, low, wordOf, tableOf}
+use Rattle.lut.proofs.Halves.{high-half, low-half}
+use Rattle.lut.proofs.Tables.{table-lt}
+use Rattle.term.specs.Rule.{linesHit, termHit}
+use Rattle.term.specs.Words.{addressHit, nibbleTable, chainWord, wordsDown, termWords}
+use Rattle.term.specs.Model.{wordHit, chainHit}
+use Rattle.term.proofs.PlainRule.{hit-split}
+
+-- ---- one table
+
+-- the lowest four lines of a number are those of its lowest nibble
+line-nibble : (x i : ℕ) → i < 4 → line (x % 16) i ≡ line x i
+line-nibble x zero h = omega arith
+line-nibble x (suc zero) h = omega arith
+line-nibble x (suc (suc zero)) h = omega arith
+line-nibble x (suc (suc (suc zero))) h = omega arith
+line-nibble x (suc (suc (suc (suc i)))) h = absurd (omega arith)
+
+lines-nibble : (t m s : ℕ) → linesHit 4 (t % 16) (m % 16) (s % 16) ≡ linesHit 4 t m s
+lines-nibble t m s =
+    lines-cong _&&_ true 4 _ _ (λ i h. rw (line-nibble t i h, line-nibble m i h, line-nibble s i h))
+
+-- the table's rule: a test at the 256 targets and masks and the 16 addresses
+abbrev nibbleTest : List ℕ → Bool
+nibbleTest ds =
+    Bool·beq (eqb (answerAt (nibbleTable (getD ds 0 0) (getD ds 1 0)) (getD ds 2 0)) 1)
+    (linesHit 4 (getD ds 0 0) (getD ds 1 0) (getD ds 2 0))
+
+pub nibble-hit : (t m s : ℕ) → eqb (answerAt (nibbleTable (t % 16) (m % 16)) (s % 16)) 1 ≡ linesHit 4 t m s
+unfolding nibbleTable tableOf overLines
+nibble-hit t m s =
+    agree _ _ (every-within (nibbles 3) nibbleTest tt (t % 16 ∷ m % 16 ∷ s % 16 ∷ []) (omega arith))
+    ∙ lines-nibble t m s
+
+pub nibble-lt : (t m : ℕ) → nibbleTable t m < 65536
+unfolding nibbleTable
+nibble-lt t m = table-lt (addressHit t m) 16
+
+pub nibble-below : (x t m : ℕ) → x ≡ nibbleTable t m → x < 65536
+nibble-below x t m e = omega (arith, nibble-lt t m)
+
+-- ---- one word, of two tables
+
+pub word-low : (t m : ℕ) → low (chainWord t m) ≡ nibbleTable (t % 16) (m % 16)
+unfolding chainWord
+word-low t m = low-half (nibbleTable (t / 16 % 16) (m / 16 % 16)) (nibbleTable (t % 16) (m % 16)) (nibble-lt (t % 16) (m % 16))
+
+pub word-high : (t m : ℕ) → high (chainWord t m) ≡ nibbleTable (t / 16 % 16) (m / 16 % 16)
+unfolding chainWord
+word-high t m = high-half (nibbleTable (t / 16 % 16) (m / 16 % 16)) (nibbleTable (t % 16) (m % 16)) (nibble-lt (t % 16) (m % 16))
+
+pub word-hit : (t m s : ℕ) → wordHit (chainWord t m) s ≡ linesHit 8 t m s
+unfolding wordHit
+word-hit t m s =
+    rw (word-low, word-high, nibble-hit t m s, nibble-hit (t / 16) (m / 16) (s / 16))
+    (and-comm (linesHit 4 t m s) (linesHit 4 (t / 16) (m / 16) (s / 16)) ∙ sym (hit-split 4 4 t m s))
+
+pub word-fits : (t m : ℕ) → chainWord t m < 2 ^ 32
+unfolding chainWord
+word-fits t m = omega (arith, nibble-lt (t / 16 % 16) (m / 16 % 16), nibble-lt (t % 16) (m % 16))
+
+-- ---- the chain
+
+pub words-length : (k t m : ℕ) → length (wordsDown k t m) ≡ k
+unfolding wordsDown
+words-length zero t m = refl
+words-length (suc k) t m = ap suc (words-length k t m)
+
+pub term-words-length : (t m : ℕ) → length (termWords t m) ≡ 4
+unfolding termWords
+term-words-length t m = words-length 4 t m
+
+chain-hit : (k t m s : ℕ) → chainHit (wordsDown k t m) s ≡ linesHit (8 * k) t m s
+unfolding chainHit wordsDown overLines
+chain-hit zero t m s = refl
+chain-hit (suc k) t m s =
+    let q : 8 + 8 * k ≡ 8 * suc k = omega arith in
+    rw (words-length k t m)
+    (ap₂ _&&_ (word-hit (t / 2 ^ (8 * k)) (m / 2 ^ (8 * k)) (s / 2 ^ (8 * k))) (chain-hit k t m s)
+    ∙ sym (hit-split 8 (8 * k) t m s)
+    ∙ ap (λ (n : ℕ). linesHit n t m s) q)
+
+pub term-hits : (t m s : ℕ) → chainHit (termWords t m) s ≡ termHit t m s
+unfolding termWords termHit
+term-hits t m s = chain-hit 4 t m s

@@ -1,0 +1,5 @@
+pub mod Rule
+pub mod Words
+pub mod Model
+pub mod Back
+pub mod Telling

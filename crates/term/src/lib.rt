@@ -1,0 +1,22 @@
+// Trigger terms: a pattern of a target and a mask over 32 lines, its four chain words, the model that runs words, and the way back.
+// Promises: each call equals its definition in specs/ for any input, and no input traps; reading back and telling apart also say what they mean.
+// Rests on: lines (digits and lines), lut (tables, answers).
+mod back;
+mod model;
+mod rule;
+mod telling;
+mod words;
+
+pub use back::read_term;
+pub use model::run_term;
+pub use rule::term_hit;
+pub use telling::least_telling;
+pub use words::term_words;
+
+// What chain words are read as.
+pub enum ReadTerm {
+    // A target, cut to the mask, and the mask.
+    Pattern(u32, u32),
+    // No pattern writes these words.
+    Refused,
+}
