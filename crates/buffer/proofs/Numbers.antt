@@ -8,7 +8,7 @@ use native.Mathlib.Nat.{add-zero, not-suc-le-zero, div-div-eq-div-mul, div-add-m
 use lib.Arith.{digits-div, digits-mod}
 use lib.Dec.{lit<}
 use lib.ListN.{length, take, drop}
-use lib.Seq.{getD-drop}
+use lib.Seq.{getD-drop, getD-take, take-append-seam, drop-append-add}
 use Rattle.buffer.specs.Bytes.{Bytes, u32At, u32Bytes}
 
 -- ---- these numbers are bytes
@@ -53,6 +53,24 @@ u32-drop s at = simp (getD-drop, add-zero)
 pub u32-small : (s : List ℕ) (at : ℕ) → Bytes s → u32At s at < 2 ^ 32
 unfolding u32At
 u32-small s at h = omega (arith, h at, h (at + 1), h (at + 2), h (at + 3))
+
+-- it is that of the part it stands in: at the start of a list, or behind another
+pub u32-take : (n : ℕ) (s : List ℕ) (at : ℕ) → at + 4 ≤ n → u32At (take n s) at ≡ u32At s at
+unfolding u32At
+u32-take n s at h =
+    simp (
+      getD-take n s at 0 (omega arith),
+      getD-take n s (at + 1) 0 (omega arith),
+      getD-take n s (at + 2) 0 (omega arith),
+      getD-take n s (at + 3) 0 (omega arith),
+    )
+
+pub u32-append : (s t : List ℕ) (at : ℕ) → at + 4 ≤ length s → u32At (s ++ t) at ≡ u32At s at
+u32-append s t at h = sym (u32-take (length s) (s ++ t) at h) ∙ ap (λ (r : List ℕ). u32At r at) (take-append-seam s t)
+
+pub u32-behind : (s t : List ℕ) (at : ℕ) → u32At (s ++ t) (length s + at) ≡ u32At t at
+u32-behind s t at =
+    u32-drop (s ++ t) (length s + at) ∙ ap (λ (r : List ℕ). u32At r 0) (drop-append-add s t at) ∙ sym (u32-drop t at)
 
 -- ---- the bytes of a number
 

@@ -5,7 +5,7 @@ use mathlib.Core.List.{List, [], _∷_}
 use lib.Dec.{leb}
 use lib.ListN.{getD}
 
--- these numbers are bytes
+-- 01, 'The set-up sheet': the numbers of a sheet, of a stream and of lent room are bytes
 abbrev pub Bytes : List ℕ → Type 0
 Bytes s = (i : ℕ) → getD s i 0 < 256
 
@@ -13,7 +13,7 @@ Bytes s = (i : ℕ) → getD s i 0 < 256
 unfoldable pub u32At : List ℕ → ℕ → ℕ
 u32At s at = getD s at 0 + getD s (at + 1) 0 * 256 + getD s (at + 2) 0 * 65536 + getD s (at + 3) 0 * 16777216
 
--- the same, for writing: a number as four bytes, least byte first
+-- 01, 'Chain words': the same for writing, a number as four bytes, least byte first
 abbrev pub u32Bytes : ℕ → List ℕ
 u32Bytes n = n % 256 ∷ n / 256 % 256 ∷ n / 65536 % 256 ∷ n / 16777216 % 256 ∷ []
 

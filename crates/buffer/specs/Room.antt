@@ -10,7 +10,7 @@ use Rattle.buffer.specs.declared.Verdict.the-variants as Verdict
 use Rattle.buffer.specs.declared.Outcome.{Outcome}
 use Rattle.buffer.specs.declared.Outcome.the-variants as Outcome
 
--- the bytes to be written, or a refusal by number and place
+-- 01, 'Refusal numbers': what a call has to say: the bytes to be written, or a refusal by number and place
 pub data Reply : Type 0 where
   bytes : List ℕ → Reply
   refusal : ℕ → ℕ → Reply
@@ -33,22 +33,22 @@ abbrev pub outcome : Reply → ℕ → Outcome
 outcome (bytes bs) size = cond (leb (length bs) size) (Outcome.Done (length bs)) (Outcome.Refused 12 (length bs))
 outcome (refusal number place) size = Outcome.Refused number place
 
--- the room afterwards
+-- 01, 'Refusal numbers': the room afterwards; a refusal, 12 too, writes nothing
 abbrev pub after : Reply → List ℕ → List ℕ
 after (bytes bs) room = cond (leb (length bs) (length room)) (fill bs room) room
 after (refusal number place) room = room
 
--- a call that was lent room answered r and left room′
+-- 01, 'Refusal numbers': a call that was lent room answered r and left room′
 pub record Delivered (reply : Reply) (room : List ℕ) (r : Outcome) (room′ : List ℕ) : Type 0 where
   pub answer : r ≡ outcome reply (length room)
   pub left : room′ ≡ after reply room
 
--- a writer wrote text into room from an index on, and answered the index behind it
+-- 01, 'The notice': text was written from an index on, and the answer is the index behind it, where the next begins
 pub record Wrote (at : ℕ) (text room room′ : List ℕ) (r : ℕ) : Type 0 where
   pub next : r ≡ at + length text
   pub left : room′ ≡ write at text room
 
--- the same where the text fits; otherwise nothing was written, and the answer is the index itself
+-- 01, 'The notice': the same where the text fits; otherwise nothing was written, and the answer is the index itself
 pub record Put (at : ℕ) (text room room′ : List ℕ) (r : ℕ) : Type 0 where
   pub next : r ≡ cond (leb (at + length text) (length room)) (at + length text) at
   pub left : room′ ≡ cond (leb (at + length text) (length room)) (write at text room) room

@@ -20,24 +20,27 @@ abbrev pub refuseFault : ℕ → ℕ → Verdict
 refuseFault zero place = Verdict.Accepted
 refuseFault (suc n) place = Verdict.Refused (suc n) place
 
+-- 01, 'Plain rules of a hit' and 'Refusal numbers': whether it is accepted
 abbrev pub isAccepted : Verdict → Bool
 isAccepted Verdict.Accepted = true
 isAccepted (Verdict.Refused number place) = false
 
--- 01, 'How tight the contracts are': the paper's number and place for each case of an answer; 0 is no refusal
+-- 01, 'How tight the contracts are': the paper's number for each case of a verdict; 0 is no refusal
 abbrev pub verdictNumber : Verdict → ℕ
 verdictNumber Verdict.Accepted = 0
 verdictNumber (Verdict.Refused number place) = number
 
+-- 01, 'How tight the contracts are': the paper's place for each case of a verdict; 0 where there is none
 abbrev pub verdictPlace : Verdict → ℕ
 verdictPlace Verdict.Accepted = 0
 verdictPlace (Verdict.Refused number place) = place
 
+-- 01, 'How tight the contracts are': the paper's number for each case of a writer's answer; 0 is no refusal
 abbrev pub outcomeNumber : Outcome → ℕ
 outcomeNumber (Outcome.Done n) = 0
 outcomeNumber (Outcome.Refused number place) = number
 
--- success gives the length written
+-- 01, 'Refusal numbers': success gives the length written, a refusal its place
 abbrev pub outcomePlace : Outcome → ℕ
 outcomePlace (Outcome.Done n) = n
 outcomePlace (Outcome.Refused number place) = place
