@@ -1,0 +1,51 @@
+-- Laws of `allWithin`: what it says of each byte, and what each way out of the walk of `all_within` tells. Assumes nothing.
+use borrow.Author.Tests.{le-leb, lt-leb, leb-true}
+use native.Mathlib.Omega.{arith}
+use native.Mathlib.Nat.{not-suc-le-zero}
+use native.Mathlib.Numerals.{add-one}
+use Prim.Native.Nat.{ℕ, zero, suc, _+_, _≤_, _<_}
+use mathlib.Core.Bool.{Bool, true, false, _&&_, and-assoc, and-eq-true-iff}
+use mathlib.Core.List.{List, [], _∷_, _++_}
+use mathlib.Core.Path.{_≡_, refl, sym, ap, _∙_}
+use lib.Dec.{leb}
+use lib.ListN.{length, getD, drop, drop-of-length-le}
+use lib.Seq.{drop-cons}
+use Rattle.buffer.specs.Bytes.{allWithin}
+
+-- ---- what it says
+
+pub within-at : (low high : ℕ) (s : List ℕ) (i : ℕ) → allWithin low high s ≡ true → i < length s → (low ≤ getD s i 0) × (getD s i 0 ≤ high)
+unfolding allWithin
+within-at low high [] i e h = absurd (not-suc-le-zero h)
+within-at low high (b ∷ s) zero e h =
+    let p = and-eq-true-iff (leb low b && leb b high) (allWithin low high s) .0 e in
+    let q = and-eq-true-iff (leb low b) (leb b high) .0 (p .0) in
+    (leb-true low b (q .0), leb-true b high (q .1))
+within-at low high (b ∷ s) (suc i) e h = within-at low high s i (and-eq-true-iff (leb low b && leb b high) (allWithin low high s) .0 e .1) (omega arith)
+
+pub within-append : (low high : ℕ) (s t : List ℕ) → allWithin low high (s ++ t) ≡ (allWithin low high s && allWithin low high t)
+unfolding allWithin
+within-append low high [] t = refl
+within-append low high (b ∷ s) t =
+    ap (λ (x : Bool). leb low b && leb b high && x) (within-append low high s t)
+    ∙ sym (and-assoc (leb low b && leb b high) (allWithin low high s) (allWithin low high t))
+
+-- ---- the walk, at index i
+
+module _ (low high : ℕ) (s : List ℕ) (i : ℕ) where
+  step : i < length s → allWithin low high (drop i s) ≡ (leb low (getD s i 0) && leb (getD s i 0) high && allWithin low high (drop (i + 1) s))
+  unfolding allWithin
+  step h = rw (add-one, drop-cons s i 0 h) refl
+
+  pub within-low : i < length s → getD s i 0 < low → allWithin low high (drop i s) ≡ false
+  within-low h l = step h ∙ simp (lt-leb low (getD s i 0) l)
+
+  pub within-high : i < length s → low ≤ getD s i 0 → high < getD s i 0 → allWithin low high (drop i s) ≡ false
+  within-high h l u = step h ∙ simp (le-leb low (getD s i 0) l, lt-leb (getD s i 0) high u)
+
+  pub within-next : i < length s → low ≤ getD s i 0 → getD s i 0 ≤ high → allWithin low high (drop i s) ≡ allWithin low high (drop (i + 1) s)
+  within-next h l u = step h ∙ simp (le-leb low (getD s i 0) l, le-leb (getD s i 0) high u)
+
+  pub within-end : length s ≤ i → allWithin low high (drop i s) ≡ true
+  unfolding allWithin
+  within-end h = rw (drop-of-length-le s h) refl

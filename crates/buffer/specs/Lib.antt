@@ -1,0 +1,4 @@
+pub mod Verdict
+pub mod Bytes
+pub mod Room
+pub mod Part
