@@ -9,7 +9,7 @@ use Rattle.buffer.proofs.bytes.prefix.Statement.{statement}
 use Rattle.buffer.proofs.bytes.prefix.Tie as tie
 
 slice-aggregate-result : tie.Need-slice-aggregate-result
-slice-aggregate-result c = sym (length-take-le (c .before .before .args .n) (now (c .before .before .args .bytes)) (omega arith))
+slice-aggregate-result c = sym (length-take-le _ (now (c .before .before .args .bytes)) (omega arith))
 
 returns : tie.Need-returns
 returns c = search needs
