@@ -4,7 +4,7 @@ use Prim.Native.Nat.{ℕ, zero, suc, _+_, _*_, _/_, _%_, _^_, _≤_, _<_, min, m
 use native.Mathlib.Nat.{one-mul, mod-lt, two-pow-succ, zero-lt-suc, div-one, add-comm}
 use native.Mathlib.Numerals.{add-one, one-add}
 use native.Mathlib.Omega.{arith}
-use lib.Bits.{bitAnd, bitOr, and-step, or-step, and-shr, or-shr}
+use lib.Bits.{bitAnd, bitOr, bitXor, and-step, or-step, and-shr, or-shr, xor-shr, and-mod, or-mod, xor-mod}
 use lib.Dec.{lit<}
 use lib.Pow.{shl-exact, shr-shr}
 use Rattle.lines.specs.Line.{line, fromLines}
@@ -33,6 +33,16 @@ line-and a b i = rw (and-shr a b i) (omega (arith, and-step (a / 2 ^ i) (b / 2 ^
 
 pub line-or : (a b i : ℕ) → line (bitOr a b) i ≡ max (line a i) (line b i)
 line-or a b i = rw (or-shr a b i) (omega (arith, or-step (a / 2 ^ i) (b / 2 ^ i)))
+
+-- the same by the operation itself, so that a formula of whole numbers holds line by line
+pub line-bit-and : (a b i : ℕ) → line (bitAnd a b) i ≡ bitAnd (line a i) (line b i)
+line-bit-and a b i = ap (λ (x : ℕ). x % 2) (and-shr a b i) ∙ and-mod (a / 2 ^ i) (b / 2 ^ i) 1
+
+pub line-bit-or : (a b i : ℕ) → line (bitOr a b) i ≡ bitOr (line a i) (line b i)
+line-bit-or a b i = ap (λ (x : ℕ). x % 2) (or-shr a b i) ∙ or-mod (a / 2 ^ i) (b / 2 ^ i) 1
+
+pub line-bit-xor : (a b i : ℕ) → line (bitXor a b) i ≡ bitXor (line a i) (line b i)
+line-bit-xor a b i = ap (λ (x : ℕ). x % 2) (xor-shr a b i) ∙ xor-mod (a / 2 ^ i) (b / 2 ^ i) 1
 
 -- 1 << i in a word of w bits
 pub shifted-one : (i w : ℕ) → i < w → 1 * 2 ^ i % 2 ^ w ≡ 2 ^ i
