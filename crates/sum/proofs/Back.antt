@@ -12,7 +12,7 @@ use Rattle.lut.specs.Table.{high, low, wordOf}
 use Rattle.sum.specs.Operation.{pairOps, midOps, finalOps, opWord, opCode, codesAccepted}
 use Rattle.sum.specs.Chain.{joined, wordsOf}
 use Rattle.sum.specs.Reading.{WrittenBy, Says, SaysSum, codesOf, known, readSum}
-use Rattle.sum.proofs.Tables.{Table, pairs, mids, finals, code-of-word, joined-high, joined-low, word-of-code, joined-codes, code-at}
+use Rattle.sum.proofs.Tables.{TenWords, pairs, mids, finals, code-of-word, joined-high, joined-low, word-of-code, joined-codes, code-at}
 
 -- a list by its places
 tab : ℕ → (ℕ → ℕ) → List ℕ
@@ -28,10 +28,10 @@ elements : (l : List ℕ) (k : ℕ) → length l ≡ k → tab k (λ i. getD l i
 elements l k h = ap (λ (n : ℕ). tab n (λ i. getD l i 0)) (sym h) ∙ tab-all l
 
 -- the two codes of a word of two operations
-high-code : (ops : List ℕ) → Table ops → (h l : ℕ) → h ≤ 9 → opCode ops (high (joined ops h l)) ≡ h
+high-code : (ops : List ℕ) → TenWords ops → (h l : ℕ) → h ≤ 9 → opCode ops (high (joined ops h l)) ≡ h
 high-code ops t h l k = ap (opCode ops) (joined-high ops t h l) ∙ code-of-word ops t h k
 
-low-code : (ops : List ℕ) → Table ops → (h l : ℕ) → l ≤ 9 → opCode ops (low (joined ops h l)) ≡ l
+low-code : (ops : List ℕ) → TenWords ops → (h l : ℕ) → l ≤ 9 → opCode ops (low (joined ops h l)) ≡ l
 low-code ops t h l k = ap (opCode ops) (joined-low ops t h l) ∙ code-of-word ops t l k
 
 -- (0, final) is final

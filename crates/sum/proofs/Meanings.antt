@@ -12,7 +12,7 @@ use Rattle.lines.proofs.Computed.{digits, everyWithin, Within, every-within}
 use Rattle.lut.specs.Table.{answerAt, oneIf}
 use Rattle.lut.proofs.Halves.{low-half}
 use Rattle.sum.specs.Operation.{pairOps, midOps, finalOps, opWord, codesAccepted}
-use Rattle.sum.specs.Meaning.{pairMeans, midMeans, finalMeans, on, groupMeans, sumMeans}
+use Rattle.sum.specs.Meaning.{pairMeans, midMeans, finalMeans, isOn, groupMeans, sumMeans}
 use Rattle.sum.specs.Chain.{joined, wordsOf}
 use Rattle.sum.specs.Model.{firstPairs, lastPairs, pairAt, inputsOf, sumHit}
 use Rattle.sum.proofs.Tables.{pairs, mids, finals, op-word-lt, joined-high, joined-low, code-at}
@@ -74,12 +74,12 @@ final-words-mean code h p q =
 -- ---- the tree
 
 -- a pair's table with its two sources
-pair-driven : (code sources a b : ℕ) → code ≤ 9 → pairAt (opWord pairOps code) sources a b ≡ oneIf (pairMeans code (on sources a) (on sources b))
+pair-driven : (code sources a b : ℕ) → code ≤ 9 → pairAt (opWord pairOps code) sources a b ≡ oneIf (pairMeans code (isOn sources a) (isOn sources b))
 pair-driven code s a b h =
     let x = line s a in
     let y = line s b in
-    let p = on s a in
-    let q = on s b in
+    let p = isOn s a in
+    let q = isOn s b in
     let ex : x ≡ oneIf p = digit-on x (omega arith) in
     let ey : y ≡ oneIf q = digit-on y (omega arith) in
     let e : 3 * x + 12 * y ≡ oneIf p + 2 * oneIf p + 4 * oneIf q + 8 * oneIf q = omega arith in
@@ -90,7 +90,7 @@ pair-driven code s a b h =
 -- a mid table over four pairs
 module _ (places : List ℕ) (s a b c d : ℕ) (ha : a ≤ 9) (hb : b ≤ 9) (hc : c ≤ 9) (hd : d ≤ 9) where
   abbrev pair : (code i j : ℕ) → Bool
-  pair code i j = pairMeans code (on s (getD places i 0)) (on s (getD places j 0))
+  pair code i j = pairMeans code (isOn s (getD places i 0)) (isOn s (getD places j 0))
 
   inputs-mean : inputsOf places (joined pairOps b a) (joined pairOps d c) s
       ≡ oneIf (pair a 0 1) + 2 * oneIf (pair b 2 3) + 4 * oneIf (pair c 4 5) + 8 * oneIf (pair d 6 7)

@@ -22,23 +22,23 @@ unfoldable pub entryRight : List ℕ → ℕ → Bool
 entryRight ops c = eqb (opCode ops (opWord ops c)) c && ltb (opWord ops c) 65536
 
 -- a table of ten words that pass
-pub record Table (ops : List ℕ) : Type 0 where
+pub record TenWords (ops : List ℕ) : Type 0 where
   pub ten : length ops ≡ 10
   pub passes : T (everyBelow 10 (λ c. entryRight ops c))
 
-pub pairs : Table pairOps
+pub pairs : TenWords pairOps
 unfolding opCode entryRight
 pairs = record { ten = refl; passes = tt }
 
-pub mids : Table midOps
+pub mids : TenWords midOps
 unfolding opCode entryRight
 mids = record { ten = refl; passes = tt }
 
-pub finals : Table finalOps
+pub finals : TenWords finalOps
 unfolding opCode entryRight
 finals = record { ten = refl; passes = tt }
 
-module _ (ops : List ℕ) (t : Table ops) where
+module _ (ops : List ℕ) (t : TenWords ops) where
   entry : (c : ℕ) → c < 10 → T (entryRight ops c)
   entry c h = every-below 10 (λ c. entryRight ops c) (t .passes) c h
 
@@ -77,7 +77,7 @@ word-of-code (x ∷ ops) word = go (eqb x word) refl (word-of-code ops word)
     go false e ih h = ih (le-of-suc-le-suc h)
 
 -- a word whose two halves are in the table
-pub joined-codes : (ops : List ℕ) (t : Table ops) (w : ℕ) → opCode ops (high w) ≤ 9 → opCode ops (low w) ≤ 9
+pub joined-codes : (ops : List ℕ) (t : TenWords ops) (w : ℕ) → opCode ops (high w) ≤ 9 → opCode ops (low w) ≤ 9
     → joined ops (opCode ops (high w)) (opCode ops (low w)) ≡ w
 joined-codes ops t w hh hl =
     ap₂ wordOf (word-of-code ops (high w) (omega (arith, t .ten))) (word-of-code ops (low w) (omega (arith, t .ten))) ∙ div-add-mod' w 65536

@@ -15,7 +15,7 @@ use Rattle.sum.specs.Meaning.{sumMeans}
 use Rattle.sum.specs.Chain.{joined, wordsOf}
 use Rattle.sum.specs.Model.{sumHit, runSum}
 use Rattle.sum.specs.Reading.{WrittenBy, SaysSum, codesOf, known, readSum}
-use Rattle.sum.proofs.Tables.{Table, pairs, mids, finals, op-word-lt, words-differ}
+use Rattle.sum.proofs.Tables.{TenWords, pairs, mids, finals, op-word-lt, words-differ}
 use Rattle.sum.proofs.Meanings as meanings
 use Rattle.sum.proofs.Back as back
 
@@ -62,7 +62,7 @@ fit-at [] h i = lit< tt
 fit-at (x ∷ xs) h zero = h .0
 fit-at (x ∷ xs) h (suc i) = fit-at xs (h .1) i
 
-joined-fits : (ops : List ℕ) → Table ops → (h l : ℕ) → joined ops h l < 2 ^ 32
+joined-fits : (ops : List ℕ) → TenWords ops → (h l : ℕ) → joined ops h l < 2 ^ 32
 joined-fits ops t h l = word-lt (opWord ops h) (opWord ops l) (op-word-lt ops t h) (op-word-lt ops t l)
 
 pub sum-words-fit : (ops : List ℕ) (i : ℕ) → getD (wordsOf ops) i 0 < 2 ^ 32

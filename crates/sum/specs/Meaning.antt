@@ -1,4 +1,5 @@
 -- What the operations mean, from the words and truth tables of the source document (000, 7.2), not from the operation words.
+-- Where a figure and the listing there differ (figure 20 at inputs 0110, figure 22's NAND at 0011), 01 takes the listing.
 use Prim.Native.Nat.{ℕ, _+_}
 use mathlib.Core.Bool.{Bool, true, false, not, _&&_, _||_}
 use mathlib.Core.List.{List, [], _∷_}
@@ -14,14 +15,14 @@ howMany [] = 0
 howMany (x ∷ inputs) = oneIf x + howMany inputs
 
 -- AND is every input, OR some input; XOR is exactly one input ("reading mid XOR as odd parity" is a slip that 01 names)
-abbrev pub every : List Bool → Bool
-every inputs = eqb (howMany inputs) (length inputs)
+abbrev pub everyInput : List Bool → Bool
+everyInput inputs = eqb (howMany inputs) (length inputs)
 
-abbrev pub some : List Bool → Bool
-some inputs = not (eqb (howMany inputs) 0)
+abbrev pub someInput : List Bool → Bool
+someInput inputs = not (eqb (howMany inputs) 0)
 
-abbrev pub exactlyOne : List Bool → Bool
-exactlyOne inputs = eqb (howMany inputs) 1
+abbrev pub oneInput : List Bool → Bool
+oneInput inputs = eqb (howMany inputs) 1
 
 -- "NOP (ie: always output zero), or ANY (always output one)", AND, NAND, OR, NOR, XOR, NXOR by code, then what a stage calls A and B
 abbrev pub opMeans : (code : ℕ) (inputs : List Bool) (a b : Bool) → Bool
@@ -29,12 +30,12 @@ opMeans code inputs a b =
     getD
     (false
     ∷ true
-    ∷ every inputs
-    ∷ not (every inputs)
-    ∷ some inputs
-    ∷ not (some inputs)
-    ∷ exactlyOne inputs
-    ∷ not (exactlyOne inputs)
+    ∷ everyInput inputs
+    ∷ not (everyInput inputs)
+    ∷ someInput inputs
+    ∷ not (someInput inputs)
+    ∷ oneInput inputs
+    ∷ not (oneInput inputs)
     ∷ a
     ∷ b
     ∷ [])
@@ -54,14 +55,14 @@ abbrev pub finalMeans : (code : ℕ) (p q : Bool) → Bool
 finalMeans code p q = opMeans code (p ∷ q ∷ []) (p && not q) (q && not p)
 
 -- source i is 1
-abbrev pub on : (sources i : ℕ) → Bool
-on sources i = eqb (line sources i) 1
+abbrev pub isOn : (sources i : ℕ) → Bool
+isOn sources i = eqb (line sources i) 1
 
 -- a mid operation over four pair operations, with their sources at the given places
 abbrev pub groupMeans : (places : List ℕ) (sources mid : ℕ) (pair1 pair2 pair3 pair4 : ℕ) → Bool
 groupMeans places s mid p q r t =
-    midMeans mid (pairMeans p (on s (getD places 0 0)) (on s (getD places 1 0))) (pairMeans q (on s (getD places 2 0)) (on s (getD places 3 0)))
-    (pairMeans r (on s (getD places 4 0)) (on s (getD places 5 0))) (pairMeans t (on s (getD places 6 0)) (on s (getD places 7 0)))
+    midMeans mid (pairMeans p (isOn s (getD places 0 0)) (isOn s (getD places 1 0))) (pairMeans q (isOn s (getD places 2 0)) (isOn s (getD places 3 0)))
+    (pairMeans r (isOn s (getD places 4 0)) (isOn s (getD places 5 0))) (pairMeans t (isOn s (getD places 6 0)) (isOn s (getD places 7 0)))
 
 -- a sum's operations: "mid1 has the first four pairs .., mid2 the last four; final has mid1 .., mid2" (01, "The model")
 abbrev pub sumMeans : (ops : List ℕ) (sources : ℕ) → Bool
