@@ -8,7 +8,7 @@ use native.Mathlib.Decide.{decLt}
 use native.Mathlib.Nat.{mul-le-mul}
 use native.Mathlib.Omega.{arith}
 use lib.Dec.{T, leb, leb→le}
-use lib.ListN.{length, getD, List·getD-eq-default}
+use lib.ListN.{getD, List·getD-eq-default}
 use Rattle.lines.proofs.Computed.{everyBelow, every-below}
 use Rattle.lines.proofs.Truth.{and-left, and-right}
 use Rattle.sheet.specs.Sections.{Row, row, rows, noFault, sections, rowOf, mostOf, descriptionSize, recordSize, sectionSize}

@@ -1,16 +1,16 @@
 -- The record with a slot, and the cursor that meets the slots in rising order: they agree. Assumes nothing.
 use Prim.Native.Nat.{ℕ, zero, suc, _+_, _≤_, _<_}
 use mathlib.Core.List.{List, [], _∷_}
-use mathlib.Core.Path.{_≡_, refl, sym, ap, _∙_}
+use mathlib.Core.Path.{_≡_, refl, sym, _∙_}
 use native.Mathlib.Decide.{decLt, ℕ-discrete}
-use native.Mathlib.Nat.{add-zero}
+use native.Mathlib.Numerals.{add-one}
 use native.Mathlib.Omega.{arith}
 use borrow.Author.Tests.{eq-eqb, ne-eqb}
 use lib.ListN.{length, getD, take, drop, length-take}
 use lib.Seq.{drop-drop, length-take-le}
 use Rattle.sheet.specs.Sections.{recordSize, slotOf}
 use Rattle.sheet.specs.Parts.{recordsIn, find, front, after}
-use Rattle.sheet.specs.Parsed.{Faultless, Ordered}
+use Rattle.sheet.specs.Parsed.{Ordered}
 use Rattle.sheet.proofs.Faults.{with-floor}
 use Rattle.sheet.proofs.Records.{record-faultless, records-cons, records-none}
 
@@ -84,6 +84,25 @@ after-ordered slot (Ordered.next {r = r} f o) =
       | yes q ↦ rw (eq-eqb (slotOf r) slot q) (rw q at o)
       | no q ↦ rw (ne-eqb (slotOf r) slot q) (Ordered.next (with-floor (slot + 1) (omega (arith, f .rising)) f) o)
     ]
+
+-- the records from the cursor on, where slot n is due and every slot before was met
+unfoldable pub cursor : ℕ → List (List ℕ) → List (List ℕ)
+cursor zero rs = rs
+cursor (suc n) rs = after n (cursor n rs)
+
+cursor-ordered : {k : ℕ} {rs : List (List ℕ)} → Ordered k 0 rs → (n : ℕ) → Ordered k n (cursor n rs)
+unfolding cursor
+cursor-ordered o zero = o
+cursor-ordered o (suc n) = rw (← add-one n) (after-ordered n (cursor-ordered o n))
+
+cursor-later : (n slot : ℕ) (rs : List (List ℕ)) → n ≤ slot → find slot (cursor n rs) ≡ find slot rs
+unfolding cursor
+cursor-later zero slot rs h = refl
+cursor-later (suc n) slot rs h = after-find n slot (cursor n rs) (omega arith) ∙ cursor-later n slot rs (omega arith)
+
+-- the walk meets at each slot the record that has it
+pub cursor-find : {k : ℕ} {rs : List (List ℕ)} → Ordered k 0 rs → (slot : ℕ) → front slot (cursor slot rs) ≡ find slot rs
+cursor-find {rs = rs} o slot = front-find slot (cursor-ordered o slot) ∙ cursor-later slot slot rs (omega arith)
 
 -- ---- the cursor as an offset in a section's part
 

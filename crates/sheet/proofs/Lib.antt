@@ -4,3 +4,10 @@ pub mod Reading
 pub mod Parsed
 pub mod Records
 pub mod Found
+pub mod Longest
+pub mod Written
+pub mod Descriptions
+pub mod AcceptedKinds
+pub mod Examples
+pub mod Places
+pub mod Theorems

@@ -124,13 +124,15 @@ records-fit k (suc n) floor at rest e =
     let more = records-fit k n (slotOf (nextRecord k rest) + 1) (at + size) (drop size rest) (both .1) in
     omega (arith, suc-mul n size, length-take size rest, length-drop size rest)
 
+pub section-whole : (k at : ℕ) (rest : List ℕ) → sectionVerdict k at rest ≡ Accepted → sectionSize k (getD rest 0 0) ≤ length rest
+section-whole k at rest ok =
+    let fit = records-fit k (getD rest 0 0) 0 (at + 1) (drop 1 rest) (records-accepted k at rest ok) in
+    let more = counted k at rest ok .0 in
+    omega (arith, length-drop 1 rest)
+
 module _ (k at : ℕ) (s : List ℕ) (ok : sectionVerdict k at (drop at s) ≡ Accepted) where
   pub section-fits : at + sectionSize k (getD s at 0) ≤ length s
-  section-fits =
-      let rest = drop at s in
-      let fit = records-fit k (getD rest 0 0) 0 (at + 1) (drop 1 rest) (records-accepted k at rest ok) in
-      let more = counted k at rest ok .0 in
-      omega (arith, rw (head-drop s at) at fit, length-drop 1 rest, length-drop at s)
+  section-fits = omega (arith, rw (head-drop s at) at (section-whole k at (drop at s) ok), length-drop at s)
 
   pub sections-next : (n : ℕ) → 0 < n → sectionsVerdict n k at (drop at s)
       ≡ sectionsVerdict (n - 1) (k + 1) (at + sectionSize k (getD s at 0)) (drop (at + sectionSize k (getD s at 0)) s)

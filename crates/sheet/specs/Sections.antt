@@ -2,9 +2,9 @@
 -- another has not is a row of one table; every size and offset follows from it.
 use Prim.Native.Nat.{ℕ, _+_, _*_}
 use mathlib.Core.Bool.{Bool, not, cond}
-use mathlib.Core.List.{List, [], _∷_}
+use mathlib.Core.List.{List, [], _∷_, _++_}
 use lib.ListN.{getD, take, drop, replicate}
-use Rattle.buffer.specs.Bytes.{u32At}
+use Rattle.buffer.specs.Bytes.{u32At, u32Bytes}
 use Rattle.buffer.specs.Room.{fill}
 use Rattle.range.specs.Rule.{rangeFault}
 use Rattle.edge.specs.Rule.{edgeAccepted}
@@ -18,6 +18,11 @@ labelSize = 8
 -- 01, 'The set-up sheet': number i of a description, 'little-endian'
 abbrev pub fieldOf : List ℕ → ℕ → ℕ
 fieldOf d i = u32At d (4 * i)
+
+-- 01, 'The set-up sheet': the same for writing, the description of these numbers
+unfoldable pub fieldBytes : List ℕ → List ℕ
+fieldBytes [] = []
+fieldBytes (n ∷ ns) = u32Bytes n ++ fieldBytes ns
 
 -- 01, 'Refusal numbers', one line of the table: this number where the test holds, otherwise what the later lines give; 0 is no fault
 abbrev pub faultIf : Bool → ℕ → ℕ → ℕ

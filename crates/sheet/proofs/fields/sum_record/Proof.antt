@@ -1,11 +1,9 @@
 -- `sheet::sum_record` meets its contract: label and operations have room in their arrays. Assumes nothing.
 use borrow.Author.Needs.{needs}
 use native.Mathlib.Omega.{arith}
-use Prim.Native.Nat.{_≤_}
-use mathlib.Core.Path.{_≡_, ap}
-use lib.ListN.{length, take, drop, replicate, length-take}
+use mathlib.Core.Path.{_≡_}
+use lib.ListN.{take, drop, replicate, length-take}
 use denote.Ref.{now}
-use Rattle.buffer.specs.Room.{fill}
 use Rattle.buffer.proofs.Writing.{filled}
 use Rattle.sheet.specs.Sections.{labelSize, labelOf, descriptionOf}
 use Rattle.sheet.proofs.fields.sum_record.Statement.{statement}

@@ -1,7 +1,6 @@
 -- `sheet::record_with` meets its contract: what stands at the cursor begins with a whole record, with that slot or another, or not.
 -- Assumes nothing.
 use borrow.Author.Needs.{needs}
-use native.Mathlib.Omega.{arith}
 use mathlib.Core.Path.{_≡_, sym}
 use lib.ListN.{take, drop}
 use denote.Ref.{now}
@@ -9,8 +8,6 @@ use Rattle.sheet.specs.Sections.{recordSize}
 use Rattle.sheet.proofs.Found.{front-short, front-here, front-other}
 use Rattle.sheet.proofs.parts.record_with.Statement.{statement}
 use Rattle.sheet.proofs.parts.record_with.Tie as tie
-
--- `sheet::record_with` meets its contract: what stands at the cursor begins with a whole record, with that slot or another, or not. Assumes nothing.
 
 record-size-requires : tie.Need-record-size-requires
 record-size-requires c κs = search needs

@@ -12,9 +12,6 @@ use Rattle.sheet.proofs.Reading.{offset-next}
 use Rattle.sheet.proofs.parts.section_offset.Statement.{statement}
 use Rattle.sheet.proofs.parts.section_offset.Tie as tie
 
--- `sheet::section_offset` meets its contract. The loop's invariant: `at` is the offset of the current section, and small.
--- Assumes nothing.
-
 abbrev Inv-loop : tie.InvT-loop
 Inv-loop sheet number at₀ section₀ at section = (section ≤ number) × (at ≡ offsetOf sheet section) × (at ≤ section * 262144)
 
