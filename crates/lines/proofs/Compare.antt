@@ -1,9 +1,10 @@
 -- Two lists of numbers compared one by one, as a loop does it. Assumes nothing.
-use mathlib.Core.Path.{_≡_, refl, ap, ap₂, _∙_}
-use mathlib.Core.Bool.{Bool, true, false, _&&_}
-use mathlib.Core.List.{List, [], _∷_}
+use mathlib.Core.Path.{_≡_, refl, sym, ap, ap₂, _∙_}
+use mathlib.Core.Bool.{Bool, true, false, _&&_, and-assoc}
+use mathlib.Core.List.{List, [], _∷_, _++_}
 use Prim.Native.Nat.{ℕ, _+_, _<_, _≤_}
 use native.Mathlib.Numerals.{add-one}
+use native.Mathlib.Omega.{arith}
 use lib.Dec.{eqb}
 use lib.ListN.{length, getD, drop, drop-of-length-le}
 use lib.Seq.{drop-cons}
@@ -54,3 +55,13 @@ module _ (xs ys : List ℕ) (i : ℕ) (hx : i < length xs) (hy : i < length ys) 
 pub same-end : (xs ys : List ℕ) (i : ℕ) → length xs ≤ i → length ys ≤ i → same (drop i xs) (drop i ys) ≡ true
 unfolding same
 same-end xs ys i hx hy = ap₂ same (drop-of-length-le xs hx) (drop-of-length-le ys hy)
+
+-- two lists joined to two of equal length are compared part by part
+pub same-append : (xs ys xs′ ys′ : List ℕ) → length xs ≡ length ys → same (xs ++ xs′) (ys ++ ys′) ≡ same xs ys && same xs′ ys′
+unfolding same
+same-append [] [] xs′ ys′ e = refl
+same-append [] (y ∷ ys) xs′ ys′ e = absurd (omega arith)
+same-append (x ∷ xs) [] xs′ ys′ e = absurd (omega arith)
+same-append (x ∷ xs) (y ∷ ys) xs′ ys′ e =
+    let ih = same-append xs ys xs′ ys′ (omega arith) in
+    ap (λ (b : Bool). eqb x y && b) ih ∙ sym (and-assoc (eqb x y) (same xs ys) (same xs′ ys′))

@@ -1,10 +1,10 @@
 -- A line is a binary digit: the laws of one line, and of a number made from its lines. Assumes nothing.
-use mathlib.Core.Path.{_≡_, refl, sym, ap, _∙_}
-use Prim.Native.Nat.{ℕ, zero, suc, _+_, _*_, _/_, _%_, _^_, _≤_, _<_, min, max}
-use native.Mathlib.Nat.{one-mul, mod-lt, two-pow-succ, zero-lt-suc, div-one, add-comm}
+use mathlib.Core.Path.{_≡_, refl, sym, ap, ap₂, _∙_}
+use Prim.Native.Nat.{ℕ, zero, suc, _+_, _-_, _*_, _/_, _%_, _^_, _<_}
+use native.Mathlib.Nat.{one-mul, mod-lt, two-pow-succ, zero-lt-suc, div-one, add-comm, zero-add}
 use native.Mathlib.Numerals.{add-one, one-add}
 use native.Mathlib.Omega.{arith}
-use lib.Bits.{bitAnd, bitOr, bitXor, differ, and-step, or-step, xor-step, and-shr, or-shr, xor-shr}
+use lib.Bits.{bitAnd, bitOr, bitXor, and-shr, or-shr, xor-shr, and-mod, or-mod, xor-mod}
 use lib.Dec.{lit<}
 use lib.Pow.{shl-exact, shr-shr}
 use Rattle.lines.specs.Line.{line, fromLines}
@@ -27,24 +27,15 @@ line-zero x = ap (λ (q : ℕ). q % 2) (div-one x)
 pub line-up : (x j m : ℕ) → line x (j + m) ≡ line (x / 2 ^ m) j
 line-up x j m = ap (λ (i : ℕ). x / 2 ^ i % 2) (add-comm j m) ∙ ap (λ (y : ℕ). y % 2) (sym (shr-shr x m j))
 
--- a line of the AND, of the OR and of the XOR of two numbers
-pub line-and : (a b i : ℕ) → line (bitAnd a b) i ≡ min (line a i) (line b i)
-line-and a b i = rw (and-shr a b i) (omega (arith, and-step (a / 2 ^ i) (b / 2 ^ i)))
+-- a line of the AND, of the OR and of the XOR of two numbers: a formula of whole numbers holds line by line
+pub line-and : (a b i : ℕ) → line (bitAnd a b) i ≡ bitAnd (line a i) (line b i)
+line-and a b i = ap (λ (x : ℕ). x % 2) (and-shr a b i) ∙ and-mod (a / 2 ^ i) (b / 2 ^ i) 1
 
-pub line-or : (a b i : ℕ) → line (bitOr a b) i ≡ max (line a i) (line b i)
-line-or a b i = rw (or-shr a b i) (omega (arith, or-step (a / 2 ^ i) (b / 2 ^ i)))
+pub line-or : (a b i : ℕ) → line (bitOr a b) i ≡ bitOr (line a i) (line b i)
+line-or a b i = ap (λ (x : ℕ). x % 2) (or-shr a b i) ∙ or-mod (a / 2 ^ i) (b / 2 ^ i) 1
 
-pub differ-lt : (x y : ℕ) → x < 2 → y < 2 → differ x y < 2
-differ-lt zero y hx hy = hy
-differ-lt (suc zero) zero hx hy = omega arith
-differ-lt (suc zero) (suc zero) hx hy = omega arith
-differ-lt (suc zero) (suc (suc y)) hx hy = absurd (omega arith)
-differ-lt (suc (suc x)) y hx hy = absurd (omega arith)
-
-pub line-xor : (a b i : ℕ) → line (bitXor a b) i ≡ differ (line a i) (line b i)
-line-xor a b i =
-    let d = differ-lt (a / 2 ^ i % 2) (b / 2 ^ i % 2) (bit-lt (a / 2 ^ i)) (bit-lt (b / 2 ^ i)) in
-    rw (xor-shr a b i) (omega (arith, xor-step (a / 2 ^ i) (b / 2 ^ i)))
+pub line-xor : (a b i : ℕ) → line (bitXor a b) i ≡ bitXor (line a i) (line b i)
+line-xor a b i = ap (λ (x : ℕ). x % 2) (xor-shr a b i) ∙ xor-mod (a / 2 ^ i) (b / 2 ^ i) 1
 
 -- 1 << i in a word of w bits
 pub shifted-one : (i w : ℕ) → i < w → 1 * 2 ^ i % 2 ^ w ≡ 2 ^ i
@@ -62,3 +53,38 @@ from-lines (suc n) x f h l =
 -- two numbers with the same lines are the same
 pub lines-same : (n x y : ℕ) → x < 2 ^ n → y < 2 ^ n → ((i : ℕ) → i < n → line x i ≡ line y i) → x ≡ y
 lines-same n x y hx hy h = sym (from-lines n x (line x) (λ i l. refl) hx) ∙ from-lines n y (line x) h hy
+
+-- lines of the same values make the same number
+pub lines-equal : (n : ℕ) (f g : ℕ → ℕ) → ((i : ℕ) → i < n → f i ≡ g i) → fromLines n f ≡ fromLines n g
+unfolding fromLines
+lines-equal zero f g h = refl
+lines-equal (suc n) f g h =
+    ap₂ (λ (x y : ℕ). x * 2 + y) (lines-equal n (λ i. f (suc i)) (λ i. g (suc i)) (λ i k. h (suc i) (omega arith))) (h 0 (omega arith))
+
+-- the lines from line i up are line i and the lines from i + 1 up
+pub lines-next : (n i : ℕ) (f : ℕ → ℕ) → i < n
+    → fromLines (n - i) (λ j. f (j + i)) ≡ fromLines (n - suc i) (λ j. f (j + suc i)) * 2 + f i
+unfolding fromLines
+lines-next n i f h =
+    let more : n - i ≡ suc (n - suc i) = omega arith in
+    ap (λ (m : ℕ). fromLines m (λ j. f (j + i))) more
+    ∙ ap₂ (λ (x y : ℕ). x * 2 + y) (lines-equal (n - suc i) (λ j. f (suc j + i)) (λ j. f (j + suc i)) (λ j k. ap f (omega arith))) (ap f (zero-add i))
+
+-- n lines make a number of n bits
+pub from-lines-lt : (n : ℕ) (f : ℕ → ℕ) → ((i : ℕ) → f i < 2) → fromLines n f < 2 ^ n
+unfolding fromLines
+from-lines-lt zero f h = omega arith
+from-lines-lt (suc n) f h =
+    let ih = from-lines-lt n (λ i. f (suc i)) (λ i. h (suc i)) in
+    let bit = h 0 in
+    omega (arith, two-pow-succ n)
+
+-- NOT, in n bits, is the other value on each line
+pub lines-not : (n : ℕ) (f : ℕ → ℕ) → ((i : ℕ) → f i < 2) → 2 ^ n - 1 - fromLines n f ≡ fromLines n (λ i. 1 - f i)
+unfolding fromLines
+lines-not zero f h = refl
+lines-not (suc n) f h =
+    let ih = lines-not n (λ i. f (suc i)) (λ i. h (suc i)) in
+    let bit = h 0 in
+    let rest = from-lines-lt n (λ i. f (suc i)) (λ i. h (suc i)) in
+    omega (arith, two-pow-succ n)

@@ -38,19 +38,53 @@ gather-drop (suc n) sample mask =
     step zero ih = ih
     step (suc d) ih = omega arith
 
--- and the mask one of its ones, if it has any
-pub ones-drop : (n mask : ℕ) → onesIn n (dropLowest n mask) ≡ onesIn n mask - 1
+-- and the mask one of its ones, if it has any, also among the i lowest lines
+pub ones-drop-in : (n mask i : ℕ) → i ≤ n → onesIn i (dropLowest n mask) ≡ onesIn i mask - 1
 unfolding onesIn dropLowest
-ones-drop zero mask = refl
-ones-drop (suc n) mask =
+ones-drop-in n mask zero h = refl
+ones-drop-in zero mask (suc i) h = absurd (omega arith)
+ones-drop-in (suc n) mask (suc i) h =
     let rest = choose (mask % 2) (dropLowest n (mask / 2)) (mask / 2) in
-    rw (even-mod rest, even-half rest) (step (mask % 2) (bit-lt mask) (ones-drop n (mask / 2)))
+    rw (even-mod rest, even-half rest) (step (mask % 2) (bit-lt mask) (ones-drop-in n (mask / 2) i (omega arith)))
   where
-    step : (d : ℕ) → d < 2 → onesIn n (dropLowest n (mask / 2)) ≡ onesIn n (mask / 2) - 1
-        → 0 + onesIn n (choose d (dropLowest n (mask / 2)) (mask / 2)) ≡ d + onesIn n (mask / 2) - 1
+    step : (d : ℕ) → d < 2 → onesIn i (dropLowest n (mask / 2)) ≡ onesIn i (mask / 2) - 1
+        → 0 + onesIn i (choose d (dropLowest n (mask / 2)) (mask / 2)) ≡ d + onesIn i (mask / 2) - 1
     step zero h ih = omega arith
     step (suc zero) h ih = omega arith
     step (suc (suc d)) h ih = absurd (omega arith)
+
+pub ones-drop : (n mask : ℕ) → onesIn n (dropLowest n mask) ≡ onesIn n mask - 1
+ones-drop n mask = ones-drop-in n mask n (omega arith)
+
+-- a line with no masked line below it is unmasked then, and any other stays as it was
+pub drop-first : (n mask i : ℕ) → i < n → onesIn i mask ≡ 0 → line (dropLowest n mask) i ≡ 0
+unfolding onesIn dropLowest
+drop-first zero mask i h e = absurd (omega arith)
+drop-first (suc n) mask zero h e =
+    let rest = choose (mask % 2) (dropLowest n (mask / 2)) (mask / 2) in
+    line-zero (rest * 2) ∙ even-mod rest
+drop-first (suc n) mask (suc i) h e =
+    let rest = choose (mask % 2) (dropLowest n (mask / 2)) (mask / 2) in
+    line-half (rest * 2) i ∙ ap (λ (x : ℕ). line x i) (even-half rest) ∙ step (mask % 2) e (drop-first n (mask / 2) i (omega arith))
+  where
+    step : (d : ℕ) → d + onesIn i (mask / 2) ≡ 0 → (onesIn i (mask / 2) ≡ 0 → line (dropLowest n (mask / 2)) i ≡ 0)
+        → line (choose d (dropLowest n (mask / 2)) (mask / 2)) i ≡ 0
+    step zero e ih = ih (omega arith)
+    step (suc d) e ih = absurd (omega arith)
+
+pub drop-later : (n mask i : ℕ) → i < n → 0 < onesIn i mask → line (dropLowest n mask) i ≡ line mask i
+unfolding onesIn dropLowest
+drop-later zero mask i h e = absurd (omega arith)
+drop-later (suc n) mask zero h e = absurd (omega arith)
+drop-later (suc n) mask (suc i) h e =
+    let rest = choose (mask % 2) (dropLowest n (mask / 2)) (mask / 2) in
+    line-half (rest * 2) i ∙ ap (λ (x : ℕ). line x i) (even-half rest) ∙ step (mask % 2) e (drop-later n (mask / 2) i (omega arith))
+    ∙ sym (line-half mask i)
+  where
+    step : (d : ℕ) → 0 < d + onesIn i (mask / 2) → (0 < onesIn i (mask / 2) → line (dropLowest n (mask / 2)) i ≡ line (mask / 2) i)
+        → line (choose d (dropLowest n (mask / 2)) (mask / 2)) i ≡ line (mask / 2) i
+    step zero e ih = ih (omega arith)
+    step (suc d) e ih = refl
 
 -- an even value is put on the same lines without its lowest bit
 pub scatter-drop : (n value mask : ℕ) → value % 2 ≡ 0 → scattered n (value / 2) (dropLowest n mask) ≡ scattered n value mask

@@ -1,7 +1,7 @@
 -- Tests over lines: equal tests give equal answers, and the lowest k + m lines are k lines above the lowest m. Assumes nothing.
 use Prim.Native.Nat.{ℕ, zero, suc, _+_, _%_, _^_, _<_}
 use mathlib.Core.Path.{_≡_, refl, sym, ap, ap₂, _∙_}
-use mathlib.Core.Bool.{Bool, true, false, _&&_, _||_}
+use mathlib.Core.Bool.{Bool, true, false, not, _&&_, _||_}
 use native.Mathlib.Decide.{ℕ-discrete}
 use native.Mathlib.Nat.{zero-add, suc-add, zero-div, le-suc, le-refl, le-trans, not-suc-le-zero, le-of-suc-le-suc, eq-or-lt-of-le}
 use mathlib.Core.Logic.{⊎-elim}
@@ -35,6 +35,26 @@ pub any-none : (k : ℕ) (p : ℕ → Bool) → ((i : ℕ) → i < k → p i ≡
 unfolding overLines
 any-none zero p h = refl
 any-none (suc k) p h = rw (h k (le-refl (suc k))) (any-none k p (λ i g. h i (le-trans g (le-suc k))))
+
+-- a test that holds where another does holds at a line if that one does
+pub any-more : (k : ℕ) (p q : ℕ → Bool) → ((i : ℕ) → i < k → p i ≡ true → q i ≡ true) → anyLine k p ≡ true → anyLine k q ≡ true
+unfolding overLines
+any-more zero p q h e = e
+any-more (suc k) p q h e = go (p k) refl e (any-more k p q (λ i g. h i (le-trans g (le-suc k))))
+  where
+    go : (b : Bool) → p k ≡ b → b || anyLine k p ≡ true → (anyLine k p ≡ true → anyLine k q ≡ true) → q k || anyLine k q ≡ true
+    go true s t ih = rw (h k (le-refl (suc k)) s)
+    go false s t ih = rw (ih t) (or-true (q k))
+
+-- not every line passes a test exactly when some line fails it
+pub not-every : (k : ℕ) (p : ℕ → Bool) → not (everyLine k p) ≡ anyLine k (λ i. not (p i))
+unfolding overLines
+not-every zero p = refl
+not-every (suc k) p = go (p k) ∙ ap (λ (b : Bool). not (p k) || b) (not-every k p)
+  where
+    go : (b : Bool) → not (b && everyLine k p) ≡ not b || not (everyLine k p)
+    go true = refl
+    go false = refl
 
 module _ (join : Bool → Bool → Bool) (none : Bool) where
   pub lines-cong : (k : ℕ) (p q : ℕ → Bool) → ((i : ℕ) → i < k → p i ≡ q i) → overLines join none k p ≡ overLines join none k q

@@ -2,12 +2,11 @@
 use mathlib.Core.Path.{_≡_, refl, ap, _∙_}
 use mathlib.Core.Bool.{Bool, true, _&&_, and-assoc, Bool·beq}
 use mathlib.Core.List.{List, [], _∷_}
-use Prim.Native.Nat.{ℕ, _+_, _/_, _%_, _^_, _<_, min}
+use Prim.Native.Nat.{ℕ, _+_, _/_, _%_, _^_, _<_}
 use native.Mathlib.Omega.{arith}
-use lib.Bits.{bitAnd, bitXor, differ, and-lt, xor-lt}
+use lib.Bits.{bitAnd, bitXor, and-lt, xor-lt}
 use lib.Dec.{eqb}
 use lib.ListN.{getD}
-use lib.Pow.{mod-mod-pow, shr-shr}
 use Rattle.lines.specs.Line.{line, everyLine}
 use Rattle.lines.proofs.Computed.{digits, every-within}
 use Rattle.lines.proofs.Digit.{line-up, line-and, line-xor}
@@ -26,13 +25,13 @@ hit-split k m t n s =
 abbrev lineTest : (ℕ → ℕ → ℕ → Bool) → List ℕ → Bool
 lineTest rule ds = Bool·beq (rule (getD ds 0 0) (getD ds 1 0) (getD ds 2 0)) (lineHit (getD ds 0 0) (getD ds 1 0) (getD ds 2 0))
 
-line-formula : (t m s i : ℕ) → eqb (min (differ (line s i) (line t i)) (line m i)) 0 ≡ lineHit (line t i) (line m i) (line s i)
+line-formula : (t m s i : ℕ) → eqb (bitAnd (bitXor (line s i) (line t i)) (line m i)) 0 ≡ lineHit (line t i) (line m i) (line s i)
 line-formula t m s i =
-    agree _ _ (every-within (digits 3) (lineTest (λ t m s. eqb (min (differ s t) m) 0)) tt (line t i ∷ line m i ∷ line s i ∷ []) (omega arith))
+    agree _ _ (every-within (digits 3) (lineTest (λ t m s. eqb (bitAnd (bitXor s t) m) 0)) tt (line t i ∷ line m i ∷ line s i ∷ []) (omega arith))
 
-line-masked : (t m s i : ℕ) → eqb (min (line s i) (line m i)) (min (line t i) (line m i)) ≡ lineHit (line t i) (line m i) (line s i)
+line-masked : (t m s i : ℕ) → eqb (bitAnd (line s i) (line m i)) (bitAnd (line t i) (line m i)) ≡ lineHit (line t i) (line m i) (line s i)
 line-masked t m s i =
-    agree _ _ (every-within (digits 3) (lineTest (λ t m s. eqb (min s m) (min t m))) tt (line t i ∷ line m i ∷ line s i ∷ []) (omega arith))
+    agree _ _ (every-within (digits 3) (lineTest (λ t m s. eqb (bitAnd s m) (bitAnd t m))) tt (line t i ∷ line m i ∷ line s i ∷ []) (omega arith))
 
 -- 01's formula: (sample XOR target) AND mask = 0
 pub lines-formula : (k t m s : ℕ) → t < 2 ^ k → m < 2 ^ k → s < 2 ^ k → eqb (bitAnd (bitXor s t) m) 0 ≡ linesHit k t m s

@@ -1,0 +1,11 @@
+pub mod Pair
+pub mod Words
+pub mod Bits
+pub mod Hit
+pub mod Wish
+pub mod Back
+pub mod TellLine
+pub mod TellApart
+pub mod TellWalk
+pub mod Theorems
+pub mod Examples

@@ -1,0 +1,157 @@
+-- What tells two accepted descriptions apart: the samples given do, and where none are given the two are the same description.
+-- Assumes nothing.
+use Prim.Native.Nat.{ℕ, _^_, _<_, _≤_}
+use mathlib.Core.Path.{_≡_, refl, sym, ap, _∙_}
+use mathlib.Core.Bool.{Bool, true, false, cond, not, true≢false}
+use native.Mathlib.Omega.{arith}
+use borrow.Author.Tests.{eqb-true, not-true}
+use lib.Bits.{bitAnd, and-lt, or-lt, and-le-l, and-le-r, xor-add-and}
+use lib.Dec.{eqb}
+use Rattle.lines.specs.Line.{line}
+use Rattle.lines.proofs.Over.{every-at, any-more, any-none, not-every, none-set}
+use Rattle.lut.specs.declared.Telling.{Telling}
+use Rattle.lut.specs.declared.Telling.the-variants.{Alike, One, Two}
+use Rattle.lut.specs.Telling.{HitAlike₂, SaysTwo}
+use Rattle.edge.specs.declared.Edge.{Edge}
+use Rattle.edge.specs.declared.Event.{Event}
+use Rattle.edge.specs.declared.Event.the-variants.{Rise, Fall, Neither}
+use Rattle.edge.specs.Rule.{lineAccepted}
+use Rattle.edge.specs.Telling.{hits, AcceptedEdge, asked, without, earlierOf, laterOf, tellBy, tellOne, orElse, tellingEdge}
+use Rattle.edge.proofs.Pair.{lineOf}
+use Rattle.edge.proofs.Bits.{without-lt}
+use Rattle.edge.proofs.TellLine.{hitsLine, line-tells}
+
+-- no line of a is missing in b
+without-none : (a b : ℕ) → without a b ≡ 0 → a ≤ b
+unfolding without
+without-none a b e =
+    omega (arith, xor-add-and a (bitAnd a b), and-le-l a (bitAnd a b), and-le-r a (bitAnd a b), and-le-l a b, and-le-r a b)
+
+asked-lt : (t : Event) (d : Edge) → AcceptedEdge d → asked t d < 2 ^ 32
+asked-lt Rise d h = h .rise-fits
+asked-lt Fall d h = h .fall-fits
+asked-lt Neither d h = h .neither-fits
+
+module _ (d r n : ℕ) (hd : d < 2 ^ 32) (hr : r < 2 ^ 32) (hn : n < 2 ^ 32) where
+  before-lt : without (bitAnd n r) d < 2 ^ 32
+  before-lt = without-lt 32 (bitAnd n r) d (and-lt 32 n r hn hr) hd
+
+  after-lt : without (without n r) d < 2 ^ 32
+  after-lt = without-lt 32 (without n r) d (without-lt 32 n r hn hr) hd
+
+  earlier-lt : (t : Event) → earlierOf t d r n < 2 ^ 32
+  earlier-lt Rise = before-lt
+  earlier-lt Fall = or-lt 32 (without (bitAnd n r) d) d before-lt hd
+  earlier-lt Neither = before-lt
+
+  later-lt : (t : Event) → laterOf t d r n < 2 ^ 32
+  later-lt Rise = or-lt 32 (without (without n r) d) d after-lt hd
+  later-lt Fall = after-lt
+  later-lt Neither = after-lt
+
+-- what an answer to "what does a ask for that b does not" says: the samples make a hit and b miss, or there is no such thing
+Tells : Edge → Edge → Telling → Type 0
+Tells a b Alike = (t : Event) → asked t a ≤ asked t b
+Tells a b (One sample) = ⊥
+Tells a b (Two e l) = (hits a e l ≡ true) × (hits b e l ≡ false) × (e < 2 ^ 32) × (l < 2 ^ 32)
+
+module _ (a b : Edge) (p : AcceptedEdge a) (q : AcceptedEdge b) where
+  module _ (t : Event) where
+    -- the lines that show the event, and the samples
+    d : ℕ
+    d = without (asked t a) (asked t b)
+
+    e : ℕ
+    e = earlierOf t d (b .rise) (b .neither)
+
+    l : ℕ
+    l = laterOf t d (b .rise) (b .neither)
+
+    each-line : (i : ℕ) → i < 32
+        → (hitsLine (lineOf b i) (line e i) (line l i) ≡ false)
+        × (eqb (line d i) 0 ≡ false → hitsLine (lineOf a i) (line e i) (line l i) ≡ true)
+    unfolding d e l
+    each-line i h =
+        line-tells t a b i d refl
+        (every-at 32 (λ i. lineAccepted (line (b .rise) i) (line (b .fall) i) (line (b .neither) i)) (q .ok) i h)
+
+    d-lt : d < 2 ^ 32
+    unfolding d
+    d-lt = without-lt 32 (asked t a) (asked t b) (asked-lt t a p) (asked-lt t b q)
+
+    a-hits : eqb d 0 ≡ false → hits a e l ≡ true
+    a-hits none =
+        any-more 32 (λ i. not (eqb (line d i) 0)) _ (λ i h g. each-line i h .1 (not-true (eqb (line d i) 0) g))
+        (sym (not-every 32 (λ i. eqb (line d i) 0)) ∙ ap not (sym (none-set 32 d d-lt) ∙ none))
+
+    b-misses : hits b e l ≡ false
+    b-misses = any-none 32 _ (λ i h. each-line i h .0)
+
+    step : (others : Telling) → (asked t a ≤ asked t b → Tells a b others) → Tells a b (tellBy t a b others)
+    unfolding tellBy d e l Tells
+    step others rest = go (eqb d 0) refl
+      where
+        go : (none : Bool) → eqb d 0 ≡ none → Tells a b (cond none others (Two e l))
+        go true z = rest (without-none (asked t a) (asked t b) (eqb-true d 0 z))
+        go false z = (
+          a-hits z,
+          b-misses,
+          earlier-lt d (b .rise) (b .neither) d-lt (q .rise-fits) (q .neither-fits) t,
+          later-lt d (b .rise) (b .neither) d-lt (q .rise-fits) (q .neither-fits) t,
+        )
+
+  one-tells : Tells a b (tellOne a b)
+  unfolding Tells
+  one-tells = step Rise _ (λ x. step Fall _ (λ y. step Neither Alike (λ z. each x y z)))
+    where
+      each : asked Rise a ≤ asked Rise b → asked Fall a ≤ asked Fall b → asked Neither a ≤ asked Neither b
+          → (t : Event) → asked t a ≤ asked t b
+      each x y z Rise = x
+      each x y z Fall = y
+      each x y z Neither = z
+
+-- each asks for nothing that the other does not: they are the same
+both-ways : (a b : Edge) → ((t : Event) → asked t a ≤ asked t b) → ((t : Event) → asked t b ≤ asked t a)
+    → (a .rise ≡ b .rise) × (a .fall ≡ b .fall) × (a .neither ≡ b .neither)
+both-ways a b x y = (omega (arith, x Rise, y Rise), omega (arith, x Fall, y Fall), omega (arith, x Neither, y Neither))
+
+same-hits : (a b : Edge) → (a .rise ≡ b .rise) × (a .fall ≡ b .fall) × (a .neither ≡ b .neither) → HitAlike₂ (hits a) (hits b)
+same-hits a b (p, q, s) e l he hl = cc
+
+differ : (x y : Bool) → x ≡ true → y ≡ false → x ≡ y → ⊥
+differ x y p q s = true≢false (sym p ∙ s ∙ q)
+
+module _ (a b : Edge) (p : AcceptedEdge a) (q : AcceptedEdge b) where
+  pub telling-says : SaysTwo (hits a) (hits b) (tellingEdge a b)
+  unfolding Tells
+  telling-says = first (tellOne a b) (one-tells a b p q)
+    where
+      second : ((t : Event) → asked t a ≤ asked t b) → (x : Telling) → Tells b a x → SaysTwo (hits a) (hits b) x
+      second le Alike w = same-hits a b (both-ways a b le w)
+      second le (One s) w = w
+      second le (Two e l) w = record {
+        fits-earlier = w .2;
+        fits-later = w .3;
+        tells = λ s. differ (hits b e l) (hits a e l) (w .0) (w .1) (sym s);
+      }
+
+      first : (x : Telling) → Tells a b x → SaysTwo (hits a) (hits b) (orElse x (tellOne b a))
+      first Alike w = second w (tellOne b a) (one-tells b a q p)
+      first (One s) w = w
+      first (Two e l) w = record {
+        fits-earlier = w .2;
+        fits-later = w .3;
+        tells = differ (hits a e l) (hits b e l) (w .0) (w .1);
+      }
+
+  -- descriptions that hit alike are the same
+  pub alike-same : HitAlike₂ (hits a) (hits b) → (a .rise ≡ b .rise) × (a .fall ≡ b .fall) × (a .neither ≡ b .neither)
+  unfolding Tells
+  alike-same alike =
+      both-ways a b (less a b alike (tellOne a b) (one-tells a b p q))
+      (less b a (λ e l x y. sym (alike e l x y)) (tellOne b a) (one-tells b a q p))
+    where
+      less : (x y : Edge) → HitAlike₂ (hits x) (hits y) → (found : Telling) → Tells x y found → (t : Event) → asked t x ≤ asked t y
+      less x y alike Alike w = w
+      less x y alike (One s) w = absurd w
+      less x y alike (Two e l) w = absurd (differ (hits x e l) (hits y e l) (w .0) (w .1) (alike e l (w .2) (w .3)))

@@ -1,0 +1,5 @@
+pub mod Rule
+pub mod Chain
+pub mod Model
+pub mod Reading
+pub mod Telling
