@@ -47,12 +47,7 @@ fn main() {
     println!("{:<10} {:>12} {:>12} {:>8}", "call", "proved (ns)", "plain (ns)", "ratio");
 
     let (mut a, mut b) = (vec![0; 2360], vec![0; 2360]);
-    compare(
-        "check",
-        &sheets,
-        |sheet| voltamar::check(sheet),
-        |sheet| plain::check(sheet),
-    );
+    compare("check", &sheets, |sheet| voltamar::check(sheet), |sheet| plain::check(sheet));
     compare(
         "compile",
         &sheets,

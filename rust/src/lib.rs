@@ -88,8 +88,7 @@ pub fn section(sheet: &[u8], number: u8) -> Result<&[u8], u8> {
 /// Writes a sheet's commands to the start of `out` and answers their length.
 pub fn compile(sheet: &[u8], out: &mut [u8]) -> Result<usize, Refusal> {
     let mut place = 0;
-    let number =
-        unsafe { raw::voltamar_compile(sheet.as_ptr(), sheet.len(), out.as_mut_ptr(), out.len(), &mut place) };
+    let number = unsafe { raw::voltamar_compile(sheet.as_ptr(), sheet.len(), out.as_mut_ptr(), out.len(), &mut place) };
     answer(number, place, place)
 }
 

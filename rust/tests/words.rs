@@ -16,7 +16,11 @@ fn sample(random: &mut Random, near: &[u32]) -> u32 {
 
 /// The right count mostly, else any other.
 fn count(random: &mut Random, right: usize) -> usize {
-    if random.one_in(8) { random.below(70) } else { right }
+    if random.one_in(8) {
+        random.below(70)
+    } else {
+        right
+    }
 }
 
 #[test]
@@ -88,9 +92,10 @@ fn model_agrees() {
             let count = count(&mut random, 4);
             make::words(&mut random, count)
         };
-        hits[0] += usize::from(both(&mut tallies[0], voltamar::run_term(&words, s), plain::run_term(&words, s), || {
-            format!("term {words:08X?} {s:08X}")
-        }));
+        hits[0] +=
+            usize::from(both(&mut tallies[0], voltamar::run_term(&words, s), plain::run_term(&words, s), || {
+                format!("term {words:08X?} {s:08X}")
+            }));
 
         let [lower, upper, mask] = make::range(&mut random);
         let s = sample(&mut random, &[lower, upper, mask]);
@@ -100,9 +105,10 @@ fn model_agrees() {
             let count = count(&mut random, 32);
             make::words(&mut random, count)
         };
-        hits[1] += usize::from(both(&mut tallies[1], voltamar::run_range(&words, s), plain::run_range(&words, s), || {
-            format!("range {words:08X?} {s:08X}")
-        }));
+        hits[1] +=
+            usize::from(both(&mut tallies[1], voltamar::run_range(&words, s), plain::run_range(&words, s), || {
+                format!("range {words:08X?} {s:08X}")
+            }));
 
         let (rise, fall) = (few(&mut random), few(&mut random));
         let neither = few(&mut random) & !(rise | fall);
@@ -115,7 +121,8 @@ fn model_agrees() {
             make::words(&mut random, count)
         };
         let (got, want) = (voltamar::run_edge(&words, earlier, later), plain::run_edge(&words, earlier, later));
-        hits[2] += usize::from(both(&mut tallies[2], got, want, || format!("edge {words:08X?} {earlier:08X} {later:08X}")));
+        hits[2] +=
+            usize::from(both(&mut tallies[2], got, want, || format!("edge {words:08X?} {earlier:08X} {later:08X}")));
 
         let sources = random.u32() as u16;
         let words = if random.one_in(2) {

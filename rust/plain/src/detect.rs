@@ -31,12 +31,15 @@ pub fn edge_hit(rise: u32, fall: u32, neither: u32, earlier: u32, later: u32) ->
 
 // ---- chain words, in sending order ----
 
+/// The addresses at which each of a table's four lines is 1.
+const LINE: [u32; 4] = [0xAAAA, 0xCCCC, 0xF0F0, 0xFF00];
+
 /// A term's table for four lines: bit n answers whether address n has the target's value on the masked lines.
 fn term_table(target: u32, mask: u32) -> u32 {
-    let mut table = 0;
-    for address in 0..16 {
-        if (address ^ target) & mask & 15 == 0 {
-            table |= 1 << address;
+    let mut table = 0xFFFF;
+    for line in 0..4 {
+        if mask >> line & 1 == 1 {
+            table &= if target >> line & 1 == 1 { LINE[line] } else { !LINE[line] };
         }
     }
     table
@@ -61,7 +64,11 @@ fn chain(value: u32, mask: u32) -> [u32; 16] {
             0xFFFF
         } else {
             rank += 1;
-            if value >> (rank - 1) & 1 == 1 { 0x5555 } else { 0xAAAA }
+            if value >> (rank - 1) & 1 == 1 {
+                0x5555
+            } else {
+                0xAAAA
+            }
         };
         // the first word has line 31 in its high half
         words[15 - line / 2] |= table << (line % 2 * 16);
@@ -188,15 +195,17 @@ pub fn read_term(words: &[u32; 4]) -> Option<(u32, u32)> {
     let (mut target, mut mask) = (0, 0);
     for table in 0..8 {
         let lut = half(words[3 - table / 2], table % 2);
-        // the addresses that hit: what they have in common is masked
-        let (mut ones, mut zeros) = (15, 15);
-        for address in 0..16 {
-            if lut >> address & 1 == 1 {
-                ones &= address;
-                zeros &= !address;
+        if lut == 0 {
+            return None;
+        }
+        // the lowest address that hits has the target; a line is masked if changing it there ends the hit
+        let t = lut.trailing_zeros();
+        let mut m = 0;
+        for line in 0..4 {
+            if lut >> (t ^ 1 << line) & 1 == 0 {
+                m |= 1 << line;
             }
         }
-        let (t, m) = (ones & 15, (ones | zeros) & 15);
         if term_table(t, m) != lut {
             return None;
         }
@@ -236,40 +245,28 @@ pub fn read_range(words: &[u32; 32]) -> Option<(u32, u32, u32)> {
 /// Rise, fall, neither.
 pub fn read_edge(words: &[u32; 8]) -> Option<(u32, u32, u32)> {
     let (mut rise, mut fall, mut neither) = (0, 0, 0);
-    for table in 0..16 {
-        let lut = half(words[7 - table / 2], table % 2);
-        let (low, high) = two_wishes(lut)?;
-        let both = low | high << 4;
-        let pick = |wish: u32| (both >> wish & 1 | (both >> (wish + 4) & 1) << 1) << (2 * table);
-        rise |= pick(0);
-        fall |= pick(1);
-        neither |= pick(2);
+    for line in 0..32 {
+        let lut = half(words[7 - line / 4], line % 4 / 2);
+        // an event is asked for if its whole word is in the table
+        let asked = |event: [u32; 2]| u32::from(lut & event[line % 2] == event[line % 2]) << line;
+        rise |= asked(RISE);
+        fall |= asked(FALL);
+        neither |= asked(NEITHER);
     }
-    Some((rise, fall, neither))
+    let accepted = neither & (rise | fall) == 0;
+    (accepted && edge_words(rise, fall, neither) == *words).then_some((rise, fall, neither))
 }
 
-/// What one line may ask for: bit 0 rise, bit 1 fall, bit 2 neither (never together with another).
-const WISHES: [u32; 5] = [0b000, 0b001, 0b010, 0b011, 0b100];
-
-fn wish_table(wish: u32, upper: usize) -> u32 {
-    let asked = |n: u32, table: u32| if wish >> n & 1 == 1 { table } else { 0 };
-    asked(0, RISE[upper]) | asked(1, FALL[upper]) | asked(2, NEITHER[upper])
-}
-
-/// The wishes of the lower and the upper line that write this table.
-fn two_wishes(lut: u32) -> Option<(u32, u32)> {
-    for high in WISHES {
-        for low in WISHES {
-            if wish_table(low, 0) | wish_table(high, 1) == lut {
-                return Some((low, high));
-            }
-        }
+/// The code whose word this is; the words of a table are all different.
+fn code(table: &[u32; 10], half: u32) -> Option<u8> {
+    let mut found = 10;
+    for (code, &word) in (0..).zip(table) {
+        found = if word == half { code } else { found };
     }
-    None
+    (found < 10).then_some(found)
 }
 
 pub fn read_sum(words: &[u32; 6]) -> Option<[u8; 11]> {
-    let code = |table: &[u32; 10], half: u32| table.iter().position(|&word| word == half).map(|code| code as u8);
     let mut operations = [0; 11];
     for pair in 0..8 {
         operations[pair] = code(&PAIR, half(words[5 - pair / 2], pair % 2))?;

@@ -186,7 +186,7 @@ pub fn range(random: &mut Random) -> [u32; 3] {
     let lower = match random.below(4) {
         0 => 1,
         1 => biggest,
-        2 => (random.u32() % biggest >> zeros << zeros).max(1),
+        2 => ((random.u32() % biggest) >> zeros << zeros).max(1),
         _ => 1 + random.u32() % biggest,
     };
     let upper = match random.below(4) {
@@ -384,8 +384,8 @@ fn damage_commands(random: &mut Random, commands: &mut Vec<[u8; 5]>) {
         // half words that some chain knows, in a place where another may be due
         12..=14 if commands[word][0] == 0x9F => {
             let known: [u16; 16] = [
-                0xFFFF, 0xAAAA, 0x5555, 0x0000, 0x8000, 0xA5A5, 0xCC33, 0xA5A5 | 0x0A0A, 0xF888, 0xFEE9, 0x000E, 0x0002,
-                0x0A0A, 0x33CC, 0x0020, 0x7FFF,
+                0xFFFF, 0xAAAA, 0x5555, 0x0000, 0x8000, 0xA5A5, 0xCC33, 0xAFAF, 0xF888, 0xFEE9, 0x000E, 0x0002, 0x0A0A,
+                0x33CC, 0x0020, 0x7FFF,
             ];
             let half = random.below(2);
             commands[word][1 + 2 * half..3 + 2 * half].copy_from_slice(&random.pick(&known).to_le_bytes());

@@ -1,7 +1,7 @@
 //! Sheet to commands and back.
 use crate::sheet::{parts, three, two, DESCRIPTION, LONGEST_SHEET, SIZE};
-use crate::{number_at, refused, Refusal};
 use crate::{edge_words, range_words, read_edge, read_range, read_sum, read_term, sum_words, term_words};
+use crate::{number_at, refused, Refusal};
 
 pub const LONGEST_STREAM: usize = 2360;
 

@@ -137,18 +137,28 @@ fn the_notice_given_whole() {
 
 #[test]
 fn wrong_notices_do_not_agree() {
-    let old = sheet([&[record(1, LABEL, &[4, 0xF])], &[record(0, LABEL, &[3, 9, 0xF])], &[record(1, LABEL, &[1, 2, 4])], &[]]);
-    let new = sheet([&[record(1, LABEL, &[6, 0xF])], &[record(0, LABEL, &[3, 8, 0xF])], &[record(1, LABEL, &[1, 0, 4])], &[]]);
+    let old = sheet([
+        &[record(1, LABEL, &[4, 0xF])],
+        &[record(0, LABEL, &[3, 9, 0xF])],
+        &[record(1, LABEL, &[1, 2, 4])],
+        &[],
+    ]);
+    let new = sheet([
+        &[record(1, LABEL, &[6, 0xF])],
+        &[record(0, LABEL, &[3, 8, 0xF])],
+        &[record(1, LABEL, &[1, 0, 4])],
+        &[],
+    ]);
     let agrees = |text: &str| notice_agrees(&old, &new, text.as_bytes()).is_ok();
     let good = "TERM 01 ALTR 00000004\nRANG 00 ALTR 00000009\nEDGE 01 ALTR 00000002 00000004\n";
     assert!(agrees(good));
     assert!(agrees(&good.replace("ALTR 00000009", "ALTR FFFFFFF9")), "any telling sample of a range");
     assert!(agrees(&good.replace("2 00000004", "A 00000004")), "any telling pair of an edge");
     for (from, to) in [
-        ("00000004\nR", "00000006\nR"),         // tells, but is not the least
-        ("00000009", "00000008"),               // does not tell
-        ("00000009", "0000000a"),               // no capital digits, and does not tell
-        ("FFFFFFF9", "fffffff9"),               // no capital digits
+        ("00000004\nR", "00000006\nR"),             // tells, but is not the least
+        ("00000009", "00000008"),                   // does not tell
+        ("00000009", "0000000a"),                   // no capital digits, and does not tell
+        ("FFFFFFF9", "fffffff9"),                   // no capital digits
         ("00000002 00000004", "00000000 00000004"), // nothing happens that one of them asks
         ("00000002 00000004", "00000002_00000004"),
         ("TERM 01", "TERM 02"),

@@ -7,7 +7,13 @@ use plain::*;
 fn samples(random: &mut Random, near: &[u32]) -> Vec<u32> {
     let mut samples: Vec<u32> = (0..20).map(|_| random.mask()).collect();
     for &number in near {
-        samples.extend([number, !number, number.wrapping_add(1), number.wrapping_sub(1), number ^ 1 << random.below(32)]);
+        samples.extend([
+            number,
+            !number,
+            number.wrapping_add(1),
+            number.wrapping_sub(1),
+            number ^ 1 << random.below(32),
+        ]);
     }
     samples
 }
@@ -45,7 +51,8 @@ fn words_run_in_the_model_hit_by_the_plain_rule() {
         let [rise, fall, neither] = make::edge(&mut random);
         let words = edge_words(rise, fall, neither);
         for earlier in samples(&mut random, &[]) {
-            for later in [earlier, !earlier, earlier ^ 1 << random.below(32), random.mask(), neither, !earlier & !rise] {
+            for later in [earlier, !earlier, earlier ^ 1 << random.below(32), random.mask(), neither, !earlier & !rise]
+            {
                 assert_eq!(run_edge(&words, earlier, later), Ok(edge_hit(rise, fall, neither, earlier, later)));
                 rarer[2] += usize::from(!edge_hit(rise, fall, neither, earlier, later));
             }
