@@ -1,23 +1,18 @@
 -- `range::back::writes` meets its contract: the two chains are compared one after the other. Assumes nothing.
 use mathlib.Core.Path.{_≡_, refl, sym, ap, ap₂, _∙_}
-use mathlib.Core.Bool.{Bool, true, false, _&&_}
-use mathlib.Core.List.{List, [], _∷_, _++_}
+use mathlib.Core.Bool.{Bool, _&&_}
+use mathlib.Core.List.{List, [], _++_}
 use Prim.Native.Nat.{ℕ, _-_}
 use native.Mathlib.Omega.{arith}
 use borrow.Author.Needs.{needs}
 use lib.ListN.{length, take, drop, getD, length-drop, take-append-drop}
 use lib.Seq.{length-take-le, take-all}
 use Rattle.lines.specs.Same.{same}
-use Rattle.lines.proofs.Truth.{and-first, and-second}
 use Rattle.lines.proofs.Compare.{same-append}
 use Rattle.range.specs.Words.{lowerValue, upperValue, lowerChain, upperChain, rangeWords, sentWords}
 use Rattle.range.proofs.Tables.{length-chain}
 use Rattle.range.proofs.back.writes.Statement.{statement}
 use Rattle.range.proofs.back.writes.Tie as tie
-use Rattle.range.proofs.back.writes.Reads as reads
-use Rattle.range.proofs.back.writes.Lts as lts
-use Rattle.lut.proofs.same_words.Reads as same-words-reads
-use Rattle.range.proofs.words.range_words.Reads as range-words-reads
 
 -- both comparisons together are that of the 32 words
 compared : (words : List ℕ) (lower upper mask : ℕ) (chains : List (List ℕ)) (x y : Bool) → length words ≡ 32
