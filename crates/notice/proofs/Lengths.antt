@@ -108,6 +108,9 @@ unless-length old new l m h = go (same old new)
     go true = nothing m
     go false = rw (one-length l) h
 
+pub name-length : (k slot : ℕ) (old new : List ℕ) → length (renderAll (unlessSame old new (line k slot Name))) ≤ 13
+name-length k slot old new = unless-length old new (line k slot Name) 13 (omega arith)
+
 pub shared-length : (k slot : ℕ) (old new : List ℕ) → length (renderAll (sharedLines k slot old new)) ≤ slotMost k
 unfolding sharedLines
 shared-length k slot old new =
@@ -117,7 +120,7 @@ shared-length k slot old new =
     rw (renderAll-append names changes, length-append (renderAll names) (renderAll changes))
     (omega (
       arith,
-      unless-length (labelOf old) (labelOf new) (line k slot Name) 13 (omega arith),
+      name-length k slot (labelOf old) (labelOf new),
       unless-length (descriptionOf old) (descriptionOf new) change (changeMost k) (change-most k (descriptionOf old) (descriptionOf new)),
     ))
 

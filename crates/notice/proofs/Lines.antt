@@ -55,10 +55,12 @@ finding-length (AltrTwo e l) = refl
 pub render-length : (l : Line) → length (render l) ≡ 8 + findingLength (l .finding)
 unfolding render
 render-length l =
-    rw (length-append (kindText (l .section) ++ slotText (l .slot)) (findingText (l .finding)),
+    rw (
+      length-append (kindText (l .section) ++ slotText (l .slot)) (findingText (l .finding)),
       length-append (kindText (l .section)) (slotText (l .slot)),
       kind-length (l .section),
-      finding-length (l .finding))
+      finding-length (l .finding),
+    )
 
 pub one-length : (l : Line) → length (renderAll (l ∷ [])) ≡ 8 + findingLength (l .finding)
 one-length l = ap length (renderAll-one l) ∙ render-length l

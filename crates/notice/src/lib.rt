@@ -1,7 +1,7 @@
 // The alteration notice: what changed between two set-up sheets, old and new, line by line.
 // Promises: for any two byte strings and any room the answer and the room equal the rendering of the structured lines, or a refusal that changes nothing.
 // Rests on: buffer (room, refusals), sheet (records by slot), and the telling of term, range and edge.
-mod finding;
+mod compare;
 mod put;
 mod text;
 

@@ -13,7 +13,7 @@ ghost use Rattle.notice.specs.Findings.{unlessSame, sharedLines, slotLin
 ghost use Rattle.notice.specs.Notice.{linesFrom, noticeText};
 use crate::Finding;
 use crate::Line;
-use crate::finding::finding_on;
+use crate::compare::finding_on;
 use crate::text::put_line;
 
 // A line, unless two parts have the same bytes.
