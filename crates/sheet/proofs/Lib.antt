@@ -1,6 +1,7 @@
 pub mod Bounds
 pub mod Faults
 pub mod Reading
+pub mod Spanning
 pub mod Parsed
 pub mod Records
 pub mod Found

@@ -4,9 +4,10 @@ use mathlib.Core.Bool.{cond, _&&_}
 use mathlib.Core.List.{List, [], _∷_}
 use lib.Dec.{ltb, eqb}
 use lib.ListN.{length, getD, take, drop}
-use Rattle.buffer.specs.Verdict.{isAccepted}
+use Rattle.buffer.specs.Verdict.{isAccepted, verdictNumber}
 use Rattle.sheet.specs.Sections.{sections, recordSize, sectionSize, slotOf}
 use Rattle.sheet.specs.Reading.{verdict}
+use Rattle.sheet.specs.declared.Span.{Span}
 
 -- 01, 'The set-up sheet': four sections in this order: the offset of the count of section k
 unfoldable pub offsetOf : List ℕ → ℕ → ℕ
@@ -28,6 +29,15 @@ sectionOf s k = cond (isAccepted (verdict s)) (sectionUnchecked s k) []
 -- 01, 'Where each language form belongs': where that part starts in the caller's bytes: after the section's count
 unfoldable pub sectionStart : List ℕ → ℕ → ℕ
 sectionStart s k = cond (ltb k sections && isAccepted (verdict s)) (offsetOf s k + 1) 0
+
+-- 01, 'The set-up sheet': that part in numbers: the check's number, where the part starts, 0 if it is empty, and its length
+unfoldable pub spanOf : List ℕ → ℕ → Span
+spanOf s k =
+    record {
+      refusal = verdictNumber (verdict s);
+      start = cond (eqb (length (sectionOf s k)) 0) 0 (sectionStart s k);
+      size = length (sectionOf s k);
+    }
 
 -- 01, 'The set-up sheet': how many records a section's part holds
 unfoldable pub recordCount : ℕ → List ℕ → ℕ

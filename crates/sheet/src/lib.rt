@@ -20,6 +20,7 @@ pub use parts::record_at;
 pub use parts::record_count;
 pub use parts::record_with;
 pub use parts::section;
+pub use parts::section_span;
 pub use parts::section_unchecked;
 
 // How many sections a sheet has. A section is known by its number: 0 terms, 1 ranges, 2 edges, 3 sums.
@@ -27,3 +28,11 @@ pub const SECTIONS: usize = 4;
 
 // How many bytes a label has.
 pub const LABEL_SIZE: usize = 8;
+
+// Where a section's part lies in the sheet: the offset of its first byte and its length, both 0 where the part is empty.
+pub struct Span {
+    // The number of the sheet's refusal, 0 if it is accepted.
+    pub refusal: u8,
+    pub start: usize,
+    pub size: usize,
+}

@@ -4,8 +4,9 @@ ghost use Prim.Native.Nat.{_*_, _≤_, _<_};
 ghost use lib.ListN.{drop};
 ghost use Rattle.buffer.specs.Part.{Part};
 ghost use Rattle.sheet.specs.Sections.{sections};
-ghost use Rattle.sheet.specs.Parts.{offsetOf, sectionUnchecked, sectionOf, sectionStart, recordCount, recordAt, recordsIn, front};
+ghost use Rattle.sheet.specs.Parts.{offsetOf, sectionUnchecked, sectionOf, sectionStart, spanOf, recordCount, recordAt, recordsIn, front};
 use crate::SECTIONS;
+use crate::Span;
 use crate::fields::slot;
 use crate::judge::check;
 use crate::layout::record_size;
@@ -53,6 +54,33 @@ pub fn section<'a>(sheet: &'a [u8], number: usize) -> &'a [u8]
             let size = section_size(number, buffer::byte_at(sheet, at));
             &sheet[at + 1..at + size]
         }
+    }
+}
+
+// Where the part that `section` hands out lies, in numbers: for a caller to whom no slice can be handed.
+pub fn section_span(sheet: &[u8], number: usize) -> Span
+    ensures { λ r. ⌜ r ≡ spanOf (now (sheet .entry)) number ⌝ }
+{
+    let verdict = check(sheet);
+    if let Verdict::Refused(refusal, _) = verdict {
+        return Span {
+            refusal,
+            start: 0,
+            size: 0,
+        };
+    }
+    let size = section_unchecked(sheet, number).len();
+    if size == 0 {
+        return Span {
+            refusal: 0,
+            start: 0,
+            size: 0,
+        };
+    }
+    Span {
+        refusal: 0,
+        start: section_offset(sheet, number) + 1,
+        size,
     }
 }
 
