@@ -3,7 +3,7 @@
 use Prim.Native.Nat.{ℕ, zero, suc, _+_, _*_, _≤_, _<_}
 use mathlib.Core.Path.{_≡_, refl, sym, ap, ap₂, _∙_}
 use mathlib.Core.Bool.{Bool, true, false, cond, not, _&&_, _||_, true≢false}
-use mathlib.Core.List.{List, [], _∷_, _++_, append-nil, map}
+use mathlib.Core.List.{List, [], _∷_, append-nil, map}
 use native.Mathlib.Decide.{decLt}
 use native.Mathlib.Omega.{arith}
 use borrow.Author.Tests.{lt-ltb, eq-eqb}
@@ -53,7 +53,7 @@ of-kind P e n k = each-at P kinds e n k
 -- ---- words
 
 -- how many there are, chain by chain
-range-lengths : (d : List ℕ) → map length (rangeChains d) ≡ 16 ∷ 16 ∷ []
+pub range-lengths : (d : List ℕ) → map length (rangeChains d) ≡ 16 ∷ 16 ∷ []
 unfolding rangeWords
 range-lengths d =
     let mask = fieldOf d 2 in
@@ -209,26 +209,9 @@ pub item-term : (r : List ℕ) → item 0 r ≡ chain (0x20 + slotOf r) (termWor
 unfolding item addressOf chainsOf kindOf chainsFrom
 item-term r = append-nil _
 
--- the two chains of a range
-abbrev pub lowerOf : List ℕ → List ℕ
-lowerOf r = getD (rangeChains (descriptionOf r)) 0 []
-
-abbrev pub upperOf : List ℕ → List ℕ
-upperOf r = getD (rangeChains (descriptionOf r)) 1 []
-
-pub item-range : (r : List ℕ) → item 1 r ≡ chain (0x30 + 2 * slotOf r) (lowerOf r) ++ chain (0x30 + 2 * slotOf r + 1) (upperOf r)
-unfolding item addressOf chainsOf kindOf chainsFrom rangeWords
-item-range r =
-    let a = 0x30 + 2 * slotOf r in
-    ap (λ (bs : List ℕ). chain a (lowerOf r) ++ bs) (append-nil (chain (a + 1) (upperOf r)))
-
-pub lower-length : (r : List ℕ) → length (lowerOf r) ≡ 16
-unfolding rangeWords
-lower-length r = range.length-chain (fieldOf (descriptionOf r) 2) (lowerValue (fieldOf (descriptionOf r) 0) (fieldOf (descriptionOf r) 2))
-
-pub upper-length : (r : List ℕ) → length (upperOf r) ≡ 16
-unfolding rangeWords
-upper-length r = range.length-chain (fieldOf (descriptionOf r) 2) (upperValue (fieldOf (descriptionOf r) 1) (fieldOf (descriptionOf r) 2))
+pub item-range : (r : List ℕ) → item 1 r ≡ chainsFrom (0x30 + 2 * slotOf r) (rangeChains (descriptionOf r))
+unfolding item addressOf chainsOf kindOf
+item-range r = refl
 
 pub item-edge : (r : List ℕ)
     → item 2 r ≡ chain (0x34 + slotOf r) (edgeWords (fieldOf (descriptionOf r) 0) (fieldOf (descriptionOf r) 1) (fieldOf (descriptionOf r) 2))
