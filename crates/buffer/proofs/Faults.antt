@@ -61,3 +61,8 @@ andThen-both a b e f = rw (e, f)
 pub andThen-assoc : (a b c : Verdict) → andThen (andThen a b) c ≡ andThen a (andThen b c)
 andThen-assoc Accepted b c = refl
 andThen-assoc (Refused number place) b c = refl
+
+-- what comes after a check counts only where that check accepts
+pub andThen-same : (a b c : Verdict) → (a ≡ Accepted → b ≡ c) → andThen a b ≡ andThen a c
+andThen-same Accepted b c h = h refl
+andThen-same (Refused number place) b c h = refl

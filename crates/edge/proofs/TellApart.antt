@@ -118,8 +118,8 @@ both-ways a b x y = (omega (arith, x Rise, y Rise), omega (arith, x Fall, y Fall
 same-hits : (a b : Edge) → (a .rise ≡ b .rise) × (a .fall ≡ b .fall) × (a .neither ≡ b .neither) → HitAlike₂ (hits a) (hits b)
 same-hits a b (p, q, s) e l he hl = cc
 
-differ : (x y : Bool) → x ≡ true → y ≡ false → x ≡ y → ⊥
-differ x y p q s = true≢false (sym p ∙ s ∙ q)
+not-alike : (x y : Bool) → x ≡ true → y ≡ false → x ≡ y → ⊥
+not-alike x y p q s = true≢false (sym p ∙ s ∙ q)
 
 module _ (a b : Edge) (p : AcceptedEdge a) (q : AcceptedEdge b) where
   pub telling-says : SaysTwo (hits a) (hits b) (tellingEdge a b)
@@ -132,7 +132,7 @@ module _ (a b : Edge) (p : AcceptedEdge a) (q : AcceptedEdge b) where
       second le (Two e l) w = record {
         fits-earlier = w .2;
         fits-later = w .3;
-        tells = λ s. differ (hits b e l) (hits a e l) (w .0) (w .1) (sym s);
+        tells = λ s. not-alike (hits b e l) (hits a e l) (w .0) (w .1) (sym s);
       }
 
       first : (x : Telling) → Tells a b x → SaysTwo (hits a) (hits b) (orElse x (tellOne b a))
@@ -141,7 +141,7 @@ module _ (a b : Edge) (p : AcceptedEdge a) (q : AcceptedEdge b) where
       first (Two e l) w = record {
         fits-earlier = w .2;
         fits-later = w .3;
-        tells = differ (hits a e l) (hits b e l) (w .0) (w .1);
+        tells = not-alike (hits a e l) (hits b e l) (w .0) (w .1);
       }
 
   -- descriptions that hit alike are the same
@@ -154,4 +154,4 @@ module _ (a b : Edge) (p : AcceptedEdge a) (q : AcceptedEdge b) where
       less : (x y : Edge) → HitAlike₂ (hits x) (hits y) → (found : Telling) → Tells x y found → (t : Event) → asked t x ≤ asked t y
       less x y alike Alike w = w
       less x y alike (One s) w = absurd w
-      less x y alike (Two e l) w = absurd (differ (hits x e l) (hits y e l) (w .0) (w .1) (alike e l (w .2) (w .3)))
+      less x y alike (Two e l) w = absurd (not-alike (hits x e l) (hits y e l) (w .0) (w .1) (alike e l (w .2) (w .3)))

@@ -1,8 +1,8 @@
 -- A chain is an adder: over n lines from line i up it adds the gathered sample, the gathered value and the carry that enters,
 -- and the carry that leaves is the sum's bit k, k being the masked ones of these lines. Assumes nothing.
-use mathlib.Core.Path.{_≡_, refl, sym, ap, ap₂, _∙_}
-use Prim.Native.Nat.{ℕ, zero, suc, _+_, _-_, _*_, _/_, _%_, _^_, _≤_, _<_}
-use native.Mathlib.Nat.{zero-add, add-zero, div-one, div-div-eq-div-mul, pow-succ', mod-mod}
+use mathlib.Core.Path.{_≡_, refl, sym, ap, _∙_}
+use Prim.Native.Nat.{ℕ, zero, suc, _+_, _*_, _/_, _%_, _^_, _≤_, _<_}
+use native.Mathlib.Nat.{zero-add, add-zero, div-one, div-div-eq-div-mul, pow-succ'}
 use native.Mathlib.Numerals.{one-add}
 use native.Mathlib.Omega.{arith}
 use lib.Count.{ones, onesIn}

@@ -22,7 +22,7 @@ use Rattle.lut.specs.declared.Telling.{Telling}
 use Rattle.lut.specs.declared.Telling.the-variants.{Alike, One, Two}
 use Rattle.range.specs.declared.Range.{Range}
 use Rattle.range.specs.Rule.{rangeHit, hitOf, Accepted}
-use Rattle.range.specs.Reduce.{idle, reduceFrom, reduceOf}
+use Rattle.range.specs.Reduce.{idle, reduceOf}
 use Rattle.range.specs.Tell.{turnValue, turnSample, tellLine, firstDiffer, tellMasks, tellBounds, tellReduced, tellingOf}
 use Rattle.range.proofs.Carry.{upper-fits}
 use Rattle.range.proofs.Halving.{range-path, busy-parts, reduce-hit, reduce-accepted, reduce-not-idle}

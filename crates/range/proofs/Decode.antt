@@ -11,7 +11,7 @@ use lib.Dec.{eqb, leb}
 use lib.ListN.{length, take, drop}
 use lib.Pow.{pow-pos}
 use Rattle.lines.specs.Line.{line}
-use Rattle.lines.specs.Gather.{gathered, scattered}
+use Rattle.lines.specs.Gather.{scattered}
 use Rattle.lines.specs.Same.{same}
 use Rattle.lines.proofs.Truth.{both-true}
 use Rattle.lines.proofs.Digit.{bit-lt, from-lines, from-lines-lt, lines-not}

@@ -8,12 +8,11 @@ use Prim.Native.Nat.{ℕ, zero, suc, _-_, _/_, _%_, _^_, _≤_, _<_}
 use native.Mathlib.Nat.{two-pow-succ}
 use native.Mathlib.Omega.{arith}
 use lib.Count.{ones}
-use Rattle.lines.specs.Line.{line, choose, flipLine}
+use Rattle.lines.specs.Line.{line, flipLine}
 use Rattle.lines.specs.Gather.{scattered, dropLowest}
-use Rattle.lines.proofs.Digit.{bit-lt}
 use Rattle.lines.proofs.Drop.{scatter-drop}
 use Rattle.range.specs.declared.Range.{Range}
-use Rattle.range.specs.Rule.{hitOf, Accepted}
+use Rattle.range.specs.Rule.{Accepted}
 use Rattle.range.specs.Words.{tableFor, lineTable, lowerValue, upperValue, wordsOf}
 use Rattle.range.specs.Model.{lowerTable, upperTable}
 use Rattle.range.specs.Matter.{CannotMatter, DroppedWords}
@@ -23,7 +22,7 @@ use Rattle.range.proofs.Tables.{length-sent, lower-sent, upper-sent, wo
 use Rattle.range.proofs.Carry.{lower-value, upper-value}
 use Rattle.range.proofs.Halving.{idle-parts, halved-accepted, ones-halved, reduce-masks}
 use Rattle.range.proofs.Turn.{bit-cases}
-use Rattle.range.proofs.Apart.{Reduced, reduced, reduced-hit, flip-hit, turn-sample, turn-sample-lt}
+use Rattle.range.proofs.Apart.{reduced, reduced-hit, flip-hit, turn-sample, turn-sample-lt}
 
 -- ---- the lines that cannot matter are those that the reduced range has not
 

@@ -9,3 +9,4 @@ pub mod Dropped
 pub mod Divides
 pub mod Decode
 pub mod Theorems
+pub mod Examples

@@ -1,5 +1,5 @@
 -- What tells two ranges apart, computed. What the answer means is lut's `SaysOne`.
-use mathlib.Core.Bool.{Bool, cond, _&&_, Bool·beq}
+use mathlib.Core.Bool.{cond, _&&_, Bool·beq}
 use Prim.Native.Nat.{ℕ, zero, suc, _+_, _-_, _/_, _%_, _^_, min, max}
 use lib.Count.{onesIn}
 use lib.Dec.{eqb, leb}

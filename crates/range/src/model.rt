@@ -6,7 +6,7 @@ ghost use Rattle.range.specs.Model.{tableAt, chainCarry, runRange};
 use lut::Answer;
 
 // The table of line i of a chain of sixteen words.
-pub fn table_at(chain: &[u32], i: u32) -> u32
+pub(crate) fn table_at(chain: &[u32], i: u32) -> u32
     requires { ⌜ (length (now chain) ≡ 16) × (i < 32) ⌝ }
     ensures { λ r. ⌜ r ≡ tableAt (now (chain .entry)) i ⌝ }
 {

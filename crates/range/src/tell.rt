@@ -75,16 +75,10 @@ fn tell_line(a: Range, b: Range, i: u32) -> u32
     ensures { λ s. ⌜ s ≡ tellLine a b i ⌝ }
 {
     let s = turn_sample(a, i);
-    if hits(a, s) {
-        if hits(b, s) {
-            return flip_line(s, i);
-        }
-        return s;
+    if hits(a, s) == hits(b, s) {
+        return flip_line(s, i);
     }
-    if hits(b, s) {
-        return s;
-    }
-    flip_line(s, i)
+    s
 }
 
 // The lowest line at which two masks differ; 32 if there is none.

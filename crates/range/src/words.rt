@@ -42,7 +42,7 @@ fn chain_words(mask: u32, value: u32) -> [u32; 16]
 }
 
 // The lowest k bits of x, k being the ones in the mask.
-pub fn low_bits(x: u32, mask: u32) -> u32
+pub(crate) fn low_bits(x: u32, mask: u32) -> u32
     ensures { λ r. ⌜ r ≡ x % 2 ^ ones mask ⌝ }
 {
     let k = u32::count_ones(mask);

@@ -6,7 +6,7 @@ use borrow.Author.Needs.{needs}
 use lib.Count.{ones, ones-le}
 use lib.Pow.{pow-pos}
 use Rattle.lines.specs.Gather.{gathered}
-use Rattle.range.specs.Back.{linesWith, chainBound}
+use Rattle.range.specs.Back.{chainBound}
 use Rattle.range.proofs.Carry.{not-low, gathered-lt}
 use Rattle.range.proofs.back.chain_bound.Statement.{statement}
 use Rattle.range.proofs.back.chain_bound.Tie as tie

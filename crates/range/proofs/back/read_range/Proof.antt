@@ -13,8 +13,8 @@ use Rattle.lines.specs.Same.{same}
 use Rattle.range.specs.declared.Range.{Range}
 use Rattle.range.specs.declared.ReadRange.{ReadRange}
 use Rattle.range.specs.declared.ReadRange.the-variants as ReadRange
-use Rattle.range.specs.Words.{complement, sentWords}
-use Rattle.range.specs.Back.{chainMask, chainBound, decoded, readAs, readRange, ReadSays}
+use Rattle.range.specs.Words.{complement, wordsOf}
+use Rattle.range.specs.Back.{chainBound, decoded, readAs, readRange, ReadSays}
 use Rattle.range.proofs.Halving.{range-path}
 use Rattle.range.proofs.Decode.{read-says}
 use Rattle.range.proofs.back.read_range.Statement.{statement}
@@ -24,41 +24,22 @@ use Rattle.range.proofs.back.read_range.Tie as tie
 meets : (words : List ℕ) (r : ReadRange) → r ≡ readRange words → (r ≡ readRange words) × ReadSays words r
 meets words r e = (e, subst (ReadSays words) (sym e) (read-says words))
 
-module _ (words : List ℕ) (len : length words ≡ 32) (mask below upper : ℕ) (em : mask ≡ chainMask (take 16 words))
-    (eb : below ≡ chainBound mask (take 16 words)) (eu : upper ≡ chainBound mask (take (length words - 16) (drop 16 words))) where
-  range : Range
-  range = record { lower = below + 1; upper = upper; mask = mask }
+-- 32 words that decode to r are judged by two tests
+module _ (words : List ℕ) (r : Range) (len : length words ≡ 32) (found : decoded words ≡ r) where
+  abbrev answer : Bool → ReadRange
+  answer b = cond b (ReadRange.Range (r .lower) (r .upper) (r .mask)) ReadRange.Refused
 
-  -- what the calls found is what the words decode to
-  found : decoded words ≡ range
-  unfolding range
-  found =
-      let rest : take (length words - 16) (drop 16 words) ≡ drop 16 words
-      = take-all (length words - 16) (drop 16 words) (simp length-drop (omega arith)) in
-      range-path (decoded words) range
-      (sym (ap (λ (b : ℕ). b + 1) eb ∙ ap (λ (m : ℕ). chainBound m (take 16 words) + 1) em))
-      (sym (eu ∙ ap₂ chainBound em rest)) (sym em)
+  decided : (w : Bool) → w ≡ same words (wordsOf r) → answer (leb (r .lower) (r .upper) && w) ≡ readRange words
+  unfolding readRange
+  decided w e =
+      rw (eq-eqb (length words) 32 len) (ap (λ (b : Bool). answer (leb (r .lower) (r .upper) && b)) e ∙ ap (readAs words) (sym found))
 
-  -- and the two tests decide
-  decided : (w : Bool) → w ≡ same words (sentWords (below + 1) upper mask)
-      → cond (leb (below + 1) upper && w) (ReadRange.Range (below + 1) upper mask) ReadRange.Refused ≡ readRange words
-  unfolding readRange range
-  decided w ew =
-      rw (eq-eqb (length words) 32 len)
-      (ap (λ (b : Bool). cond (leb (below + 1) upper && b) (ReadRange.Range (below + 1) upper mask) ReadRange.Refused) ew
-      ∙ ap (readAs words) (sym found))
+  in-order : (w b : Bool) → w ≡ same words (wordsOf r) → w ≡ b → r .lower ≤ r .upper → answer b ≡ readRange words
+  in-order w b e eb h = sym (ap₂ (λ (x y : Bool). answer (x && y)) (le-leb (r .lower) (r .upper) h) eb) ∙ decided w e
 
-  accepts : (w : Bool) → w ≡ same words (sentWords (below + 1) upper mask) → below < upper → (b : Bool) → w ≡ b
-      → cond b (ReadRange.Range (below + 1) upper mask) ReadRange.Refused ≡ readRange words
-  accepts w ew h b e =
-      sym (ap₂ (λ (x y : Bool). cond (x && y) (ReadRange.Range (below + 1) upper mask) ReadRange.Refused) (le-leb (below + 1) upper (omega arith)) e)
-      ∙ decided w ew
-
-  refuses : upper ≤ below → ReadRange.Refused ≡ readRange words
-  refuses h =
-      sym (ap (λ (x : Bool). cond (x && same words (sentWords (below + 1) upper mask)) (ReadRange.Range (below + 1) upper mask) ReadRange.Refused)
-      (lt-leb (below + 1) upper (omega arith)))
-      ∙ decided (same words (sentWords (below + 1) upper mask)) refl
+  out-of-order : r .upper < r .lower → ReadRange.Refused ≡ readRange words
+  out-of-order h =
+      sym (ap (λ (x : Bool). answer (x && same words (wordsOf r))) (lt-leb (r .lower) (r .upper) h)) ∙ decided (same words (wordsOf r)) refl
 
 -- any other count is refused
 other : (words : List ℕ) → (length words ≡ 32 → ⊥) → ReadRange.Refused ≡ readRange words
@@ -106,38 +87,46 @@ add-lower c = search needs
 writes-requires : tie.Need-writes-requires
 writes-requires c κs = search needs
 
+-- what the calls found is what the words decode to
+module _ (c : tie.After-chain-bound2) where
+  abbrev lent : List ℕ
+  lent = c .before .before .before .before .before .before .before .before .args .words .now
+
+  abbrev read : Range
+  read =
+      record {
+        lower = c .before .before .chain-bound .result + 1;
+        upper = c .chain-bound2 .result;
+        mask = complement (c .before .before .before .before .lines-with .result);
+      }
+
+  count : length lent ≡ 32
+  count = c .before .before .before .before .before .before .if1 .left
+
+  found : decoded lent ≡ read
+  found =
+      let mask = ap complement (c .before .before .before .before .lines-with .ensures) in
+      let rest : take (length lent - 16) (drop 16 lent) ≡ drop 16 lent
+      = take-all (length lent - 16) (drop 16 lent) (simp length-drop (omega (arith, count))) in
+      sym
+      (range-path read (decoded lent)
+      (ap (λ (b : ℕ). b + 1) (c .before .before .chain-bound .ensures) ∙ ap (λ (m : ℕ). chainBound m (take 16 lent) + 1) mask)
+      (c .chain-bound2 .ensures ∙ ap₂ chainBound mask rest) mask)
+
 returns-2 : tie.Need-returns-2
 returns-2 c =
-    let upper = c .before .before .before in
-    let lower = upper .before .before in
-    let masked = lower .before .before in
-    let half = masked .before .before in
-    let words = half .before .before .args .words .now in
-    meets words _
-    (accepts words (half .if1 .left) _ _ _ (ap complement (masked .lines-with .ensures)) (lower .chain-bound .ensures) (upper .chain-bound2 .ensures) _
-    (c .before .writes .ensures) (c .before .before .if2 .taken) true (c .if3 .taken))
+    let d = c .before .before .before in
+    meets (lent d) _ (in-order (lent d) (read d) (count d) (found d) _ true (c .before .writes .ensures) (c .if3 .taken) (omega arith))
 
 returns-3 : tie.Need-returns-3
 returns-3 c =
-    let upper = c .before .before .before in
-    let lower = upper .before .before in
-    let masked = lower .before .before in
-    let half = masked .before .before in
-    let words = half .before .before .args .words .now in
-    meets words _
-    (accepts words (half .if1 .left) _ _ _ (ap complement (masked .lines-with .ensures)) (lower .chain-bound .ensures) (upper .chain-bound2 .ensures) _
-    (c .before .writes .ensures) (c .before .before .if2 .taken) false (c .if3 .left))
+    let d = c .before .before .before in
+    meets (lent d) _ (in-order (lent d) (read d) (count d) (found d) _ false (c .before .writes .ensures) (c .if3 .left) (omega arith))
 
 returns-4 : tie.Need-returns-4
 returns-4 c =
-    let upper = c .before in
-    let lower = upper .before .before in
-    let masked = lower .before .before in
-    let half = masked .before .before in
-    let words = half .before .before .args .words .now in
-    meets words ReadRange.Refused
-    (refuses words (half .if1 .left) _ _ _ (ap complement (masked .lines-with .ensures)) (lower .chain-bound .ensures) (upper .chain-bound2 .ensures)
-    (c .if2 .left))
+    let d = c .before in
+    meets (lent d) _ (out-of-order (lent d) (read d) (count d) (found d) (omega arith))
 
 pub read-range-spec : {M : Type 1} → statement M
 read-range-spec =

@@ -1,5 +1,4 @@
 -- `range::rule::range_hit` meets its contract. Assumes nothing.
-use Prim.Native.Nat.{_-_}
 use borrow.Author.Needs.{needs}
 use borrow.Author.Tests.{le-leb, lt-leb}
 use Rattle.range.specs.Rule.{rangeHit}

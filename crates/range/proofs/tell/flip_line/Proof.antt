@@ -1,6 +1,5 @@
 -- `range::tell::flip_line` meets its contract. Assumes nothing.
 use mathlib.Core.Path.{ap, _∙_}
-use Prim.Native.Nat.{_-_}
 use borrow.Author.Needs.{needs}
 use lib.Bits.{bitXor}
 use Rattle.lines.proofs.Digit.{shifted-one}

@@ -1,6 +1,6 @@
 -- `range::tell::tell_bounds` meets its contract. Assumes nothing.
 use mathlib.Core.Path.{_≡_, ap, _∙_}
-use Prim.Native.Nat.{ℕ, _-_, min, max}
+use Prim.Native.Nat.{ℕ, min, max}
 use borrow.Author.Needs.{needs}
 use borrow.Author.Tests.{eq-eqb, ne-eqb}
 use Rattle.lines.specs.Gather.{scattered}

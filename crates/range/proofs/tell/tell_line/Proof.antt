@@ -1,7 +1,7 @@
 -- `range::tell::tell_line` meets its contract. Assumes nothing.
 use mathlib.Core.Path.{_≡_, sym, ap, ap₂, _∙_}
-use mathlib.Core.Bool.{Bool, cond, Bool·beq}
-use Prim.Native.Nat.{ℕ, _-_}
+use mathlib.Core.Bool.{Bool, true, false, cond, Bool·beq}
+use Prim.Native.Nat.{ℕ}
 use borrow.Author.Needs.{needs}
 use Rattle.lines.specs.Line.{flipLine}
 use Rattle.range.specs.declared.Range.{Range}
@@ -23,56 +23,28 @@ flip-line-requires : tie.Need-flip-line-requires
 flip-line-requires c κs = search needs
 
 -- by the two hits of the sample
-by-hits : (a b : Range) (i s : ℕ) (ha hb : Bool) → s ≡ turnSample a i → ha ≡ hitOf a s → hb ≡ hitOf b s
-    → cond (Bool·beq ha hb) (flipLine i s) s ≡ tellLine a b i
+by-hits : (a b : Range) (i s : ℕ) (ha hb t : Bool) → s ≡ turnSample a i → ha ≡ hitOf a s → hb ≡ hitOf b s → Bool·beq ha hb ≡ t
+    → cond t (flipLine i s) s ≡ tellLine a b i
 unfolding tellLine
-by-hits a b i s ha hb es ea eb =
-    ap₂ (λ (x y : Bool). cond (Bool·beq x y) (flipLine i s) s) ea eb
-    ∙ ap (λ (t : ℕ). cond (Bool·beq (hitOf a t) (hitOf b t)) (flipLine i t) t) es
+by-hits a b i s ha hb t es ea eb et =
+    ap (λ (x : Bool). cond x (flipLine i s) s) (sym et ∙ ap₂ Bool·beq ea eb)
+    ∙ ap (λ (x : ℕ). cond (Bool·beq (hitOf a x) (hitOf b x)) (flipLine i x) x) es
 
 returns : tie.Need-returns
 returns c =
-    let hit2 = c .before .before in
-    let hit1 = hit2 .before .before in
-    let a = hit1 .before .before .args in
-    (c .flip-line .ensures
-    ∙ ap₂ (λ (x y : Bool). cond (Bool·beq x y) (flipLine (a .i) (hit1 .before .turn-sample .result)) (hit1 .before .turn-sample .result))
-    (sym (hit2 .before .if1 .taken)) (sym (c .before .if2 .taken)))
-    ∙ by-hits (a .a) (a .b) (a .i) _ _ _ (hit1 .before .turn-sample .ensures) (hit1 .hits .ensures) (hit2 .hits2 .ensures)
+    let second = c .before .before in
+    let sampled = second .before .before in
+    let a = sampled .before .args in
+    c .flip-line .ensures
+    ∙ by-hits (a .a) (a .b) (a .i) _ _ _ true (sampled .turn-sample .ensures) (second .before .hits .ensures) (second .hits2 .ensures)
+    (c .before .if1 .taken)
 
 returns-2 : tie.Need-returns-2
 returns-2 c =
-    let hit2 = c .before in
-    let hit1 = hit2 .before .before in
-    let a = hit1 .before .before .args in
-    ap₂ (λ (x y : Bool). cond (Bool·beq x y) (flipLine (a .i) (hit1 .before .turn-sample .result)) (hit1 .before .turn-sample .result))
-    (sym (hit2 .before .if1 .taken)) (sym (c .if2 .left))
-    ∙ by-hits (a .a) (a .b) (a .i) _ _ _ (hit1 .before .turn-sample .ensures) (hit1 .hits .ensures) (hit2 .hits2 .ensures)
-
-hits-requires-3 : tie.Need-hits-requires-3
-hits-requires-3 c κs = search needs
-
-returns-3 : tie.Need-returns-3
-returns-3 c =
-    let hit2 = c .before in
-    let hit1 = hit2 .before .before in
-    let a = hit1 .before .before .args in
-    ap₂ (λ (x y : Bool). cond (Bool·beq x y) (flipLine (a .i) (hit1 .before .turn-sample .result)) (hit1 .before .turn-sample .result))
-    (sym (hit2 .before .if1 .left)) (sym (c .if3 .taken))
-    ∙ by-hits (a .a) (a .b) (a .i) _ _ _ (hit1 .before .turn-sample .ensures) (hit1 .hits .ensures) (hit2 .hits3 .ensures)
-
-flip-line-requires-2 : tie.Need-flip-line-requires-2
-flip-line-requires-2 c κs = search needs
-
-returns-4 : tie.Need-returns-4
-returns-4 c =
-    let hit2 = c .before .before in
-    let hit1 = hit2 .before .before in
-    let a = hit1 .before .before .args in
-    (c .flip-line2 .ensures
-    ∙ ap₂ (λ (x y : Bool). cond (Bool·beq x y) (flipLine (a .i) (hit1 .before .turn-sample .result)) (hit1 .before .turn-sample .result))
-    (sym (hit2 .before .if1 .left)) (sym (c .before .if3 .left)))
-    ∙ by-hits (a .a) (a .b) (a .i) _ _ _ (hit1 .before .turn-sample .ensures) (hit1 .hits .ensures) (hit2 .hits3 .ensures)
+    let second = c .before in
+    let sampled = second .before .before in
+    let a = sampled .before .args in
+    by-hits (a .a) (a .b) (a .i) _ _ _ false (sampled .turn-sample .ensures) (second .before .hits .ensures) (second .hits2 .ensures) (c .if1 .left)
 
 pub tell-line-spec : {M : Type 1} → statement M
 tell-line-spec =
@@ -83,8 +55,4 @@ tell-line-spec =
     hits-requires-2
     flip-line-requires
     returns
-    returns-2
-    hits-requires-3
-    returns-3
-    flip-line-requires-2
-    returns-4)
+    returns-2)

@@ -1,14 +1,14 @@
 -- `range::words::chain_words` meets its contract. The loop's invariant: the words below k are written.
 -- Assumes nothing.
-use mathlib.Core.Path.{_≡_, refl, sym, ap, _∙_}
+use mathlib.Core.Path.{_≡_, refl, _∙_}
 use mathlib.Core.List.{List}
 use native.Mathlib.Omega.{arith}
 use borrow.Author.Count.{below-more}
 use borrow.Author.Needs.{needs}
 use Prim.Native.Nat.{ℕ, _+_, _-_, _≤_, _<_}
 use lib.ListN.{length, getD, set, length-set}
-use lib.Seq.{ext-getD, getD-set-same, getD-set-other}
-use Rattle.range.specs.Words.{pairWord, wordsDown, chainWords}
+use lib.Seq.{getD-set-same, getD-set-other}
+use Rattle.range.specs.Words.{pairWord}
 use Rattle.range.proofs.Tables.{chain-ext}
 use Rattle.range.proofs.words.chain_words.Statement.{statement}
 use Rattle.range.proofs.words.chain_words.Tie as tie

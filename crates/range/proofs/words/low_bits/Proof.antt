@@ -1,9 +1,9 @@
 -- `range::words::low_bits` meets its contract. Assumes nothing.
-use mathlib.Core.Path.{_≡_, _∙_}
+use mathlib.Core.Path.{_≡_}
 use native.Mathlib.Omega.{arith}
-use Prim.Native.Nat.{ℕ, _*_, _%_, _^_, _≤_, _<_}
-use native.Mathlib.Nat.{one-mul, mod-le, lt-of-le-of-lt}
-use lib.Pow.{pow-pos, shl-exact}
+use Prim.Native.Nat.{_*_, _%_, _^_, _≤_}
+use native.Mathlib.Nat.{mod-le, lt-of-le-of-lt}
+use lib.Pow.{pow-pos}
 use lib.Count.{ones, ones-le}
 use Rattle.lines.proofs.Digit.{shifted-one}
 use Rattle.range.proofs.words.low_bits.Statement.{statement}

@@ -1,0 +1,3 @@
+pub mod Text
+pub mod Findings
+pub mod Notice

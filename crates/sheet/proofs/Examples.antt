@@ -1,0 +1,146 @@
+-- Sheets worked out: each refusal 1 to 11 with its place, and which of two faults wins. One table, computed. Assumes nothing.
+use Prim.Native.Nat.{ℕ, zero, suc}
+use mathlib.Core.Bool.{Bool, true, false, _&&_}
+use mathlib.Core.List.{List, [], _∷_, _++_}
+use mathlib.Core.Path.{_≡_, refl, sym}
+use lib.Count.{ones, onesIn}
+use lib.Dec.{T, eqb, lit<}
+use lib.ListN.{length, replicate}
+use Rattle.buffer.specs.Bytes.{u32At, allWithin}
+use Rattle.buffer.specs.declared.Verdict.{Verdict}
+use Rattle.buffer.specs.declared.Verdict.the-variants.{Accepted, Refused}
+use Rattle.lines.specs.Line.{overLines}
+use Rattle.lines.proofs.Ones.{ones-in}
+use Rattle.range.specs.Rule.{rangeFault}
+use Rattle.sum.specs.Operation.{codesAccepted}
+use Rattle.sheet.specs.Sections.{fieldBytes, noFault, rangeFaultOf, edgeFaultOf, sumFaultOf, rowOf, mostOf, descriptionSize, descriptionFault, labelSize}
+use Rattle.sheet.specs.Reading.{recordFault, recordsVerdict, countVerdict, sectionVerdict, sectionsVerdict, verdict}
+use Rattle.sheet.specs.Parsed.{joined, render}
+use Rattle.sheet.proofs.Descriptions.{sheetWith, recordWith, onlySection, sheet-with}
+use Rattle.sheet.proofs.Written.{fields-length}
+
+-- a record with this slot, this label byte throughout and this description
+pub labelled : ℕ → ℕ → List ℕ → List ℕ
+labelled slot label d = slot ∷ (replicate labelSize label ++ d)
+
+pub blank : ℕ → List ℕ → List ℕ
+blank slot d = labelled slot 0x20 d
+
+-- the descriptions of a term, a sum, and a range or an edge
+pub term : List ℕ
+term = fieldBytes (5 ∷ 15 ∷ [])
+
+pub sum : List ℕ
+sum = replicate 11 9
+
+pub three : ℕ → ℕ → ℕ → List ℕ
+three a b c = fieldBytes (a ∷ b ∷ c ∷ [])
+
+pub sheet : List (List ℕ) → List (List ℕ) → List (List ℕ) → List (List ℕ) → List ℕ
+sheet terms ranges edges sums = render (terms ∷ ranges ∷ edges ∷ sums ∷ [])
+
+-- n blank records with slots from i on
+pub slots : ℕ → ℕ → List ℕ → List (List ℕ)
+slots zero i d = []
+slots (suc n) i d = blank i d ∷ slots n (suc i) d
+
+-- every slot of every section is taken
+pub full : List ℕ
+full = sheet (slots 10 0 term) (slots 2 0 (three 1 1 1)) (slots 2 0 (three 0 0 0)) (slots 48 0 sum)
+
+-- what an example says: this sheet gets this verdict
+pub record Example : Type 0 where
+  pub bytes : List ℕ
+  pub expected : Verdict
+
+pub gives : List ℕ → Verdict → Example
+gives s v = record { bytes = s; expected = v }
+
+pub same : Verdict → Verdict → Bool
+same Accepted Accepted = true
+same Accepted (Refused number place) = false
+same (Refused number place) Accepted = false
+same (Refused number place) (Refused n p) = eqb number n && eqb place p
+
+pub allHold : List Example → Bool
+allHold [] = true
+allHold (e ∷ es) = same (verdict (e .bytes)) (e .expected) && allHold es
+
+pub table : List Example
+table =
+    gives (0 ∷ 0 ∷ 0 ∷ 0 ∷ []) Accepted
+    ∷ gives full Accepted
+    -- 1: a count is missing; a record is missing, or cut, even where its slot is bad; a fault before the cut wins
+    ∷ gives [] (Refused 1 0)
+    ∷ gives (0 ∷ 0 ∷ 0 ∷ []) (Refused 1 3)
+    ∷ gives (1 ∷ []) (Refused 1 1)
+    ∷ gives (1 ∷ 10 ∷ replicate 15 0x20) (Refused 1 1)
+    ∷ gives (2 ∷ blank 10 term) (Refused 3 1)
+    -- 2: before the records
+    ∷ gives (11 ∷ []) (Refused 2 0)
+    ∷ gives (0 ∷ 3 ∷ blank 2 (three 0 0 0)) (Refused 2 1)
+    -- 3: slot 10 does not wrap; before 4 and 5
+    ∷ gives (sheet (blank 10 term ∷ []) [] [] []) (Refused 3 1)
+    ∷ gives (sheet (blank 9 term ∷ labelled 10 0x7F term ∷ []) [] [] []) (Refused 3 18)
+    -- 4: the same slot twice; before 5
+    ∷ gives (sheet (blank 4 term ∷ blank 4 term ∷ []) [] [] []) (Refused 4 18)
+    ∷ gives (sheet (blank 4 term ∷ labelled 3 0x1F term ∷ []) [] [] []) (Refused 4 18)
+    -- 5: before 6
+    ∷ gives (sheet (labelled 0 0x7F term ∷ []) [] [] []) (Refused 5 1)
+    ∷ gives (sheet (labelled 0 0x1F term ∷ []) [] [] []) (Refused 5 1)
+    ∷ gives (sheet (labelled 0 0x7E term ∷ []) [] [] []) Accepted
+    ∷ gives (sheet [] (labelled 0 0x7F (three 0 1 1) ∷ []) [] []) (Refused 5 2)
+    -- 6, P: lower 0; before 7 and 8; the second of two ranges
+    ∷ gives (sheetWith 1 (three 0 1 1)) (Refused 6 2)
+    ∷ gives (sheetWith 1 (three 0 0 0)) (Refused 6 2)
+    ∷ gives (sheet [] (blank 0 (three 1 1 1) ∷ blank 1 (three 0 1 1) ∷ []) [] []) (Refused 6 23)
+    -- 7: before 8
+    ∷ gives (sheetWith 1 (three 3 2 1)) (Refused 7 2)
+    -- 8, P: mask 1, 1..1 accepted, 1..2 refused; mask 0 never passes
+    ∷ gives (sheetWith 1 (three 1 1 1)) Accepted
+    ∷ gives (sheetWith 1 (three 1 2 1)) (Refused 8 2)
+    ∷ gives (sheetWith 1 (three 1 1 0)) (Refused 8 2)
+    -- 9: neither with rise, neither with fall, on one line; on different lines it is none
+    ∷ gives (sheetWith 2 (three 1 0 1)) (Refused 9 3)
+    ∷ gives (sheetWith 2 (three 0 6 4)) (Refused 9 3)
+    ∷ gives (sheetWith 2 (three 1 2 4)) Accepted
+    -- 10: the last operation, and bytes left over after it
+    ∷ gives (sheetWith 3 (replicate 10 9 ++ (10 ∷ []))) (Refused 10 4)
+    ∷ gives (sheetWith 3 (replicate 10 9 ++ (10 ∷ [])) ++ (0 ∷ [])) (Refused 10 4)
+    -- 11: comes last
+    ∷ gives (0 ∷ 0 ∷ 0 ∷ 0 ∷ 7 ∷ []) (Refused 11 4)
+    ∷ gives (full ++ (0 ∷ 0 ∷ [])) (Refused 11 1218)
+    ∷ gives (sheetWith 1 (three 0 1 1) ++ (7 ∷ [])) (Refused 6 2)
+    ∷ []
+
+pub examples : T (allHold table)
+unfolding labelled blank term sum three sheet slots full gives same allHold table joined render verdict sectionsVerdict sectionVerdict countVerdict recordsVerdict recordFault descriptionFault noFault rangeFaultOf rangeFault edgeFaultOf sumFaultOf codesAccepted overLines allWithin u32At fieldBytes rowOf mostOf descriptionSize ones onesIn sheetWith recordWith onlySection
+examples = tt
+
+-- the same of descriptions alone; P: lower 0, and mask 1 with 1..1 and 1..2
+pub descriptions :
+    (descriptionFault 1 (three 0 1 1) ≡ 6)
+    × (descriptionFault 1 (three 1 1 1) ≡ 0)
+    × (descriptionFault 1 (three 1 2 1) ≡ 8)
+    × (descriptionFault 2 (three 1 0 1) ≡ 9)
+    × (descriptionFault 3 (replicate 11 10) ≡ 10)
+unfolding three descriptionFault rowOf rangeFaultOf rangeFault edgeFaultOf sumFaultOf codesAccepted overLines fieldBytes u32At ones onesIn
+descriptions = (refl, refl, refl, refl, refl)
+
+-- mask FFFFFFFF, 1..FFFFFFFF: 2^k - 1 is FFFFFFFF
+pub widest : descriptionFault 1 (three 1 0xFFFFFFFF 0xFFFFFFFF) ≡ 0
+unfolding three descriptionFault rowOf rangeFaultOf rangeFault fieldBytes u32At onesIn
+widest = let k : ones 0xFFFFFFFF ≡ 32 = sym (ones-in 32 0xFFFFFFFF (lit< tt)) in rw k
+
+pub widest-sheet : verdict (sheetWith 1 (three 1 0xFFFFFFFF 0xFFFFFFFF)) ≡ Accepted
+unfolding three descriptionSize rowOf
+widest-sheet = sheet-with 1 (three 1 0xFFFFFFFF 0xFFFFFFFF) (lit< tt) (fields-length (1 ∷ 0xFFFFFFFF ∷ 0xFFFFFFFF ∷ [])) widest
+
+-- the longest sheet
+pub full-length : length full ≡ 1218
+unfolding labelled blank term sum three sheet slots full joined render fieldBytes
+full-length = refl
+
+pub full-accepted : verdict full ≡ Accepted
+unfolding labelled blank term sum three sheet slots full joined render verdict sectionsVerdict sectionVerdict countVerdict recordsVerdict recordFault descriptionFault noFault rangeFaultOf rangeFault edgeFaultOf sumFaultOf codesAccepted overLines allWithin u32At fieldBytes rowOf mostOf descriptionSize ones onesIn
+full-accepted = refl

@@ -1,0 +1,114 @@
+-- Which fault a description or a record has, by the tests that hold of it. Assumes nothing.
+use borrow.Author.Tests.{lt-ltb, le-ltb, le-leb, lt-leb, ltb-false, leb-false, not-false}
+use native.Mathlib.Omega.{arith}
+use Prim.Native.Nat.{ℕ, zero, suc, _≤_, _<_}
+use mathlib.Core.Bool.{Bool, true, false, not}
+use mathlib.Core.List.{List}
+use mathlib.Core.Path.{_≡_, refl, _∙_}
+use lib.Dec.{ltb, leb}
+use lib.ListN.{length}
+use Rattle.buffer.specs.Bytes.{allWithin}
+use Rattle.edge.specs.Rule.{edgeAccepted}
+use Rattle.sum.specs.Operation.{codesAccepted}
+use Rattle.sheet.specs.Sections.{fieldOf, faultIf, noFault, rangeFaultOf, edgeFaultOf, sumFaultOf, rowOf, mostOf, descriptionFault, recordSize, slotOf, labelOf, descriptionOf}
+use Rattle.sheet.specs.Reading.{recordFault}
+use Rattle.sheet.specs.Parsed.{Faultless}
+
+-- ---- descriptions
+
+module _ (d : List ℕ) where
+  pub edge-none : edgeAccepted (fieldOf d 0) (fieldOf d 1) (fieldOf d 2) ≡ true → edgeFaultOf d ≡ 0
+  unfolding edgeFaultOf
+  edge-none e = rw e
+
+  pub edge-clash : edgeAccepted (fieldOf d 0) (fieldOf d 1) (fieldOf d 2) ≡ false → edgeFaultOf d ≡ 9
+  unfolding edgeFaultOf
+  edge-clash e = rw e
+
+  pub sum-none : codesAccepted d ≡ true → sumFaultOf d ≡ 0
+  unfolding sumFaultOf
+  sum-none e = rw e
+
+  pub sum-bad : codesAccepted d ≡ false → sumFaultOf d ≡ 10
+  unfolding sumFaultOf
+  sum-bad e = rw e
+
+module _ (k : ℕ) (d : List ℕ) where
+  pub of-range : k ≡ 1 → descriptionFault k d ≡ rangeFaultOf d
+  unfolding descriptionFault rowOf
+  of-range e = rw e
+
+  pub of-edge : k ≡ 2 → descriptionFault k d ≡ edgeFaultOf d
+  unfolding descriptionFault rowOf
+  of-edge e = rw e
+
+  pub of-sum : k ≡ 3 → descriptionFault k d ≡ sumFaultOf d
+  unfolding descriptionFault rowOf
+  of-sum e = rw e
+
+pub of-other : (k : ℕ) (d : List ℕ) → (k ≡ 1 → ⊥) → (k ≡ 2 → ⊥) → (k ≡ 3 → ⊥) → descriptionFault k d ≡ 0
+unfolding descriptionFault rowOf noFault
+of-other zero d a b c = refl
+of-other (suc zero) d a b c = absurd (a refl)
+of-other (suc (suc zero)) d a b c = absurd (b refl)
+of-other (suc (suc (suc zero))) d a b c = absurd (c refl)
+of-other (suc (suc (suc (suc k)))) d a b c = refl
+
+-- ---- records: one law for each line of the refusal table
+
+module _ (k floor : ℕ) (r : List ℕ) where
+  pub record-short : length r < recordSize k → recordFault k floor r ≡ 1
+  unfolding recordFault
+  record-short h = simp (lt-ltb (length r) (recordSize k) h)
+
+  module _ (whole : recordSize k ≤ length r) where
+    pub record-slot : mostOf k ≤ slotOf r → recordFault k floor r ≡ 3
+    unfolding recordFault
+    record-slot h = simp (le-ltb (length r) (recordSize k) whole, le-leb (mostOf k) (slotOf r) h)
+
+    module _ (fit : slotOf r < mostOf k) where
+      pub record-order : slotOf r < floor → recordFault k floor r ≡ 4
+      unfolding recordFault
+      record-order h = simp (le-ltb (length r) (recordSize k) whole, lt-leb (mostOf k) (slotOf r) fit, lt-ltb (slotOf r) floor h)
+
+      module _ (rising : floor ≤ slotOf r) where
+        pub record-label : allWithin 0x20 0x7E (labelOf r) ≡ false → recordFault k floor r ≡ 5
+        unfolding recordFault
+        record-label e = simp (le-ltb (length r) (recordSize k) whole, lt-leb (mostOf k) (slotOf r) fit, le-ltb (slotOf r) floor rising, e)
+
+        pub record-description : allWithin 0x20 0x7E (labelOf r) ≡ true → recordFault k floor r ≡ descriptionFault k (descriptionOf r)
+        unfolding recordFault
+        record-description e = simp (le-ltb (length r) (recordSize k) whole, lt-leb (mostOf k) (slotOf r) fit, le-ltb (slotOf r) floor rising, e)
+
+-- ---- a record without fault is faultless, and the other way round
+
+-- where there is no fault, the first test fails and the later ones find none
+clear : (n : ℕ) (b : Bool) (later : ℕ) → (n ≡ 0 → ⊥) → faultIf b n later ≡ 0 → (b ≡ false) × (later ≡ 0)
+clear n true later nz e = absurd (nz e)
+clear n false later nz e = (refl, e)
+
+-- r has no more bytes than a record
+pub faultless : (k floor : ℕ) (r : List ℕ) → length r ≤ recordSize k → recordFault k floor r ≡ 0 → Faultless k floor r
+unfolding recordFault
+faultless k floor r l e =
+    let c1 = clear 1 (ltb (length r) (recordSize k)) _ (λ z. omega arith) e in
+    let c3 = clear 3 (leb (mostOf k) (slotOf r)) _ (λ z. omega arith) (c1 .1) in
+    let c4 = clear 4 (ltb (slotOf r) floor) _ (λ z. omega arith) (c3 .1) in
+    let c5 = clear 5 (not (allWithin 0x20 0x7E (labelOf r))) _ (λ z. omega arith) (c4 .1) in
+    let w : recordSize k ≤ length r = ltb-false (length r) (recordSize k) (c1 .0) in
+    record {
+      whole = omega arith;
+      slot-fits = leb-false (mostOf k) (slotOf r) (c3 .0);
+      rising = ltb-false (slotOf r) floor (c4 .0);
+      label-fits = not-false (allWithin 0x20 0x7E (labelOf r)) (c5 .0);
+      description-fits = c5 .1;
+    }
+
+pub no-fault : (k floor : ℕ) (r : List ℕ) → Faultless k floor r → recordFault k floor r ≡ 0
+no-fault k floor r f =
+    record-description k floor r (omega (arith, f .whole)) (f .slot-fits) (f .rising) (f .label-fits) ∙ f .description-fits
+
+-- the floor may be any that is not above the slot
+pub with-floor : {k floor : ℕ} {r : List ℕ} (low : ℕ) → low ≤ slotOf r → Faultless k floor r → Faultless k low r
+with-floor low h f =
+    record { whole = f .whole; slot-fits = f .slot-fits; rising = h; label-fits = f .label-fits; description-fits = f .description-fits }

@@ -1,0 +1,13 @@
+pub mod Bounds
+pub mod Faults
+pub mod Reading
+pub mod Parsed
+pub mod Records
+pub mod Found
+pub mod Longest
+pub mod Written
+pub mod Descriptions
+pub mod AcceptedKinds
+pub mod Examples
+pub mod Places
+pub mod Theorems

@@ -1,0 +1,4 @@
+pub mod Sections
+pub mod Reading
+pub mod Parts
+pub mod Parsed

@@ -1,0 +1,63 @@
+-- A sheet taken apart: for each section the list of its records, and each record its bytes; and what makes such a list a sheet.
+use Prim.Native.Nat.{ℕ, zero, suc, _+_, _≤_, _<_}
+use mathlib.Core.Bool.{true}
+use mathlib.Core.List.{List, [], _∷_, _++_}
+use mathlib.Core.Path.{_≡_}
+use lib.ListN.{length, getD, drop}
+use Rattle.buffer.specs.Bytes.{Bytes, allWithin}
+use Rattle.buffer.specs.declared.Verdict.the-variants.{Accepted}
+use Rattle.sheet.specs.Sections.{sections, mostOf, recordSize, sectionSize, descriptionFault, slotOf, labelOf, descriptionOf}
+use Rattle.sheet.specs.Reading.{verdict}
+use Rattle.sheet.specs.Parts.{sectionOf, recordAt, recordCount, recordsFrom}
+
+-- 01, 'The set-up sheet': records one after the other
+unfoldable pub joined : List (List ℕ) → List ℕ
+joined [] = []
+joined (r ∷ rs) = r ++ joined rs
+
+-- 01, 'The set-up sheet': sections in order, each after a one-byte count, and nothing after the last
+unfoldable pub render : List (List (List ℕ)) → List ℕ
+render [] = []
+render (rs ∷ ss) = length rs ∷ (joined rs ++ render ss)
+
+-- 01, 'The set-up sheet': a record of section k without fault, its slot at least `floor`
+pub record Faultless (k floor : ℕ) (r : List ℕ) : Type 0 where
+  pub whole : length r ≡ recordSize k
+  pub slot-fits : slotOf r < mostOf k
+  pub rising : floor ≤ slotOf r
+  pub label-fits : allWithin 0x20 0x7E (labelOf r) ≡ true
+  pub description-fits : descriptionFault k (descriptionOf r) ≡ 0
+
+-- 01, 'The set-up sheet': such records of section k, the slots strictly rising from `floor` on
+pub data Ordered (k : ℕ) : ℕ → List (List ℕ) → Type 0 where
+  done : {floor : ℕ} → Ordered k floor []
+  next : {floor : ℕ} {r : List ℕ} {rs : List (List ℕ)} → Faultless k floor r → Ordered k (slotOf r + 1) rs → Ordered k floor (r ∷ rs)
+
+-- 01, 'The set-up sheet': sections from section k on, each of such records
+pub data Sections : ℕ → List (List (List ℕ)) → Type 0 where
+  done : {k : ℕ} → Sections k []
+  next : {k : ℕ} {rs : List (List ℕ)} {ss : List (List (List ℕ))} → Ordered k 0 rs → Sections (k + 1) ss → Sections k (rs ∷ ss)
+
+-- 01, 'The set-up sheet': all the sections of a sheet
+pub record WellFormed (p : List (List (List ℕ))) : Type 0 where
+  pub all : length p ≡ sections
+  pub good : Sections 0 p
+
+-- 01, 'The set-up sheet': the first n sections from section k on
+unfoldable pub sectionsFrom : ℕ → ℕ → List ℕ → List (List (List ℕ))
+sectionsFrom zero k rest = []
+sectionsFrom (suc n) k rest =
+    recordsFrom k (getD rest 0 0) (drop 1 rest) ∷ sectionsFrom n (k + 1) (drop (sectionSize k (getD rest 0 0)) rest)
+
+-- 01, 'The set-up sheet': the sections of a sheet
+unfoldable pub parse : List ℕ → List (List (List ℕ))
+parse s = sectionsFrom sections 0 s
+
+-- 01, 'Plain rules of a hit': a description 'is accepted if some accepted sheet has it', here in section k
+pub record AcceptedDescription (k : ℕ) (d : List ℕ) : Type 0 where
+  pub sheet : List ℕ
+  pub place : ℕ
+  pub bytes : Bytes sheet
+  pub accepted : verdict sheet ≡ Accepted
+  pub within : place < recordCount k (sectionOf sheet k)
+  pub has : descriptionOf (recordAt k (sectionOf sheet k) place) ≡ d

@@ -1,0 +1,155 @@
+// The verdict on a sheet: read left to right, the first fault wins.
+ghost use mathlib.Core.Path.{_≡_};
+ghost use lib.ListN.{drop};
+ghost use Rattle.sheet.specs.Sections.{rangeFaultOf, edgeFaultOf, sumFaultOf, descriptionFault};
+ghost use Rattle.sheet.specs.Reading.{recordFault, recordsVerdict, sectionVerdict, verdict};
+use crate::SECTIONS;
+use crate::fields::description;
+use crate::fields::field;
+use crate::fields::label;
+use crate::fields::slot;
+use crate::layout::most;
+use crate::layout::record_size;
+use crate::layout::section_size;
+use buffer::Verdict;
+
+// The refusal numbers of a sheet; 6, 7 and 8 are a range's own. 0 is no fault.
+const NO_FAULT: u8 = 0;
+
+const INCOMPLETE: u8 = 1;
+
+const COUNT_TOO_BIG: u8 = 2;
+
+const SLOT_TOO_BIG: u8 = 3;
+
+const SLOT_NOT_RISING: u8 = 4;
+
+const BAD_LABEL: u8 = 5;
+
+const NEITHER_CLASH: u8 = 9;
+
+const BAD_OPERATION: u8 = 10;
+
+const LEFT_OVER: u8 = 11;
+
+// The first and the last byte that a label may have.
+const LABEL_FIRST: u8 = 0x20;
+
+const LABEL_LAST: u8 = 0x7e;
+
+fn range_fault(bytes: &[u8]) -> u8
+    ensures { λ r. ⌜ r ≡ rangeFaultOf (now (bytes .entry)) ⌝ }
+{
+    range::range_fault(field(bytes, 0), field(bytes, 1), field(bytes, 2))
+}
+
+fn edge_fault(bytes: &[u8]) -> u8
+    ensures { λ r. ⌜ r ≡ edgeFaultOf (now (bytes .entry)) ⌝ }
+{
+    if edge::edge_accepted(field(bytes, 0), field(bytes, 1), field(bytes, 2)) {
+        NO_FAULT
+    } else {
+        NEITHER_CLASH
+    }
+}
+
+fn sum_fault(bytes: &[u8]) -> u8
+    ensures { λ r. ⌜ r ≡ sumFaultOf (now (bytes .entry)) ⌝ }
+{
+    if sum::codes_accepted(bytes) {
+        NO_FAULT
+    } else {
+        BAD_OPERATION
+    }
+}
+
+// The first fault of a description in a section, 0 if it has none.
+pub fn description_fault(section: usize, bytes: &[u8]) -> u8
+    ensures { λ r. ⌜ r ≡ descriptionFault section (now (bytes .entry)) ⌝ }
+{
+    match section {
+        1 => range_fault(bytes),
+        2 => edge_fault(bytes),
+        3 => sum_fault(bytes),
+        _ => NO_FAULT,
+    }
+}
+
+// The first fault of a record, 0 if it has none. Its slot has to be at least `floor`.
+fn record_fault(section: usize, floor: usize, bytes: &[u8]) -> u8
+    ensures { λ r. ⌜ r ≡ recordFault section floor (now (bytes .entry)) ⌝ }
+{
+    if bytes.len() < record_size(section) {
+        return INCOMPLETE;
+    }
+    let slot = slot(bytes) as usize;
+    if most(section) <= slot {
+        return SLOT_TOO_BIG;
+    }
+    if slot < floor {
+        return SLOT_NOT_RISING;
+    }
+    if buffer::all_within(LABEL_FIRST, LABEL_LAST, label(bytes)) {
+        description_fault(section, description(bytes))
+    } else {
+        BAD_LABEL
+    }
+}
+
+// The verdict on `count` records of a section, the first of which starts at `start`.
+fn check_records(sheet: &[u8], section: usize, count: usize, start: usize) -> Verdict
+    ensures { λ r. ⌜ r ≡ recordsVerdict section count 0 start (drop start (now (sheet .entry))) ⌝ }
+{
+    let size = record_size(section);
+    let mut at = start;
+    let mut floor: usize = 0;
+    let mut left = count;
+    while 0 < left {
+        let next = buffer::prefix(buffer::suffix(sheet, at), size);
+        let number = record_fault(section, floor, next);
+        if number != NO_FAULT {
+            return Verdict::Refused(number, at);
+        }
+        floor = slot(next) as usize + 1;
+        at += size;
+        left -= 1;
+    }
+    Verdict::Accepted
+}
+
+// The verdict on a section whose count stands at `at`.
+fn check_section(sheet: &[u8], section: usize, at: usize) -> Verdict
+    ensures { λ r. ⌜ r ≡ sectionVerdict section at (drop at (now (sheet .entry))) ⌝ }
+{
+    if sheet.len() <= at {
+        return Verdict::Refused(INCOMPLETE, at);
+    }
+    let count = buffer::byte_at(sheet, at) as usize;
+    if most(section) < count {
+        return Verdict::Refused(COUNT_TOO_BIG, at);
+    }
+    check_records(sheet, section, count, at + 1)
+}
+
+// The verdict on a sheet: accepted, or its first fault by number and place.
+pub fn check(sheet: &[u8]) -> Verdict
+    ensures { λ r. ⌜ r ≡ verdict (now (sheet .entry)) ⌝ }
+{
+    let mut at: usize = 0;
+    let mut section: usize = 0;
+    while section < SECTIONS {
+        match check_section(sheet, section, at) {
+            Verdict::Refused(number, place) => {
+                return Verdict::Refused(number, place);
+            }
+            Verdict::Accepted => {}
+        }
+        at += section_size(section, buffer::byte_at(sheet, at));
+        section += 1;
+    }
+    if at < sheet.len() {
+        Verdict::Refused(LEFT_OVER, at)
+    } else {
+        Verdict::Accepted
+    }
+}
