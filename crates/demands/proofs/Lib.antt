@@ -1,1 +1,4 @@
 pub mod BenchHolds
+pub mod Tellings
+pub mod SlotLines
+pub mod Demand3

@@ -4,3 +4,4 @@ pub mod Slots
 pub mod Walk
 pub mod Across
 pub mod Answers
+pub mod Members

@@ -27,7 +27,7 @@ pub use parts::section_unchecked;
 pub const SECTIONS: usize = 4;
 
 // How many bytes a label has.
-pub const LABEL_SIZE: usize = 8;
+pub const LABEL_SIZE: usize = sum::LABEL_LENGTH;
 
 // Where a section's part lies in the sheet: the offset of its first byte and its length, both 0 where the part is empty.
 pub struct Span {
