@@ -9,7 +9,7 @@ use lib.ListN.{length}
 use Rattle.buffer.specs.declared.Verdict.the-variants.{Accepted, Refused}
 use Rattle.sheet.specs.Sections.{sections}
 use Rattle.sheet.specs.Reading.{verdict}
-use Rattle.sheet.specs.Parts.{offsetOf, sectionUnchecked, spanOf}
+use Rattle.sheet.specs.Parts.{offsetOf, sectionUnchecked, partStart, spanOf}
 use Rattle.sheet.specs.declared.Span.{Span}
 use Rattle.sheet.proofs.Reading.{unchecked, unchecked-unknown, start-known, section-refused}
 
@@ -18,7 +18,7 @@ span refusal start size = record { refusal = refusal; start = start; size = size
 
 module _ (s : List ℕ) (k : ℕ) where
   pub span-refused : (number place : ℕ) → verdict s ≡ Refused number place → spanOf s k ≡ span number 0 0
-  unfolding spanOf
+  unfolding spanOf partStart
   span-refused number place e = rw (e, section-refused s k number place e)
 
   -- a part that has bytes is that of a section
@@ -27,9 +27,9 @@ module _ (s : List ℕ) (k : ℕ) where
 
   module _ (ok : verdict s ≡ Accepted) where
     pub span-empty : length (sectionUnchecked s k) ≡ 0 → spanOf s k ≡ span 0 0 0
-    unfolding spanOf
+    unfolding spanOf partStart
     span-empty none = rw (unchecked s k ok, ok, none)
 
     pub span-some : 0 < length (sectionUnchecked s k) → spanOf s k ≡ span 0 (offsetOf s k + 1) (length (sectionUnchecked s k))
-    unfolding spanOf
+    unfolding spanOf partStart
     span-some h = rw (unchecked s k ok, ok, ne-eqb (length (sectionUnchecked s k)) 0 (λ e. omega arith), start-known s k (some-known h) ok)

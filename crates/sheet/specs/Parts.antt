@@ -30,14 +30,13 @@ sectionOf s k = cond (isAccepted (verdict s)) (sectionUnchecked s k) []
 unfoldable pub sectionStart : List ℕ → ℕ → ℕ
 sectionStart s k = cond (ltb k sections && isAccepted (verdict s)) (offsetOf s k + 1) 0
 
--- 01, 'The set-up sheet': that part in numbers: the check's number, where the part starts, 0 if it is empty, and its length
+-- 01, 'The set-up sheet': the same for a caller to whom the part is given in numbers: an empty part starts at 0
+unfoldable pub partStart : List ℕ → ℕ → ℕ
+partStart s k = cond (eqb (length (sectionOf s k)) 0) 0 (sectionStart s k)
+
+-- 01, 'The set-up sheet': that part in numbers, with the number that 'is had by checking the sheet'
 unfoldable pub spanOf : List ℕ → ℕ → Span
-spanOf s k =
-    record {
-      refusal = verdictNumber (verdict s);
-      start = cond (eqb (length (sectionOf s k)) 0) 0 (sectionStart s k);
-      size = length (sectionOf s k);
-    }
+spanOf s k = record { refusal = verdictNumber (verdict s); start = partStart s k; size = length (sectionOf s k) }
 
 -- 01, 'The set-up sheet': how many records a section's part holds
 unfoldable pub recordCount : ℕ → List ℕ → ℕ
