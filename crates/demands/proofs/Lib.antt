@@ -4,3 +4,4 @@ pub mod SlotLines
 pub mod Demand3
 pub mod NoticeBytes
 pub mod NoticeLists
+pub mod Sizes
