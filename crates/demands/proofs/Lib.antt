@@ -5,3 +5,4 @@ pub mod Demand3
 pub mod NoticeBytes
 pub mod NoticeLists
 pub mod Sizes
+pub mod NoticeExamples
