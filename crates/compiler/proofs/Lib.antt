@@ -1,3 +1,4 @@
 pub mod ItemLaws
 pub mod StreamLaws
 pub mod Rising
+pub mod Held
