@@ -1,12 +1,11 @@
 -- Each record's item stands in the stream, and the chain words read there are those of its description. Assumes nothing.
-use Prim.Native.Nat.{ℕ, suc, _+_, _*_, _≤_, _<_}
-use mathlib.Core.Path.{_≡_, refl, sym, ap, ap₂, _∙_}
+use Prim.Native.Nat.{ℕ, suc, _+_, _≤_, _<_}
+use mathlib.Core.Path.{_≡_, refl, sym, ap, _∙_}
 use mathlib.Core.List.{List, [], _∷_, _++_, append-assoc, map, flatten}
 use native.Mathlib.Omega.{arith}
 use lib.ListN.{length, getD, take, drop, length-append}
 use lib.Seq.{split-at, take-at, drop-append-seam}
 use Rattle.command.specs.Command.{chain, Words}
-use Rattle.command.specs.Reading.{wordsIn}
 use Rattle.command.proofs.RoundTrip.{chain-words, chain-past}
 use Rattle.sheet.specs.Sections.{sections, slotOf, descriptionOf}
 use Rattle.compiler.specs.Items.{addressOf, lengthsOf, chainsOf, chainsFrom, item, itemSize}
@@ -60,7 +59,7 @@ sent-behind before stream after k r e =
     record {
       place = length before;
       within =
-        rw e (omega (arith, length-append before (item k r ++ after), length-append (item k r) after, item-length k r));
+          rw e (omega (arith, length-append before (item k r ++ after), length-append (item k r) after, item-length k r));
       there = rw rest (take-at (item k r) after (itemSize k) (item-length k r));
       words = rw rest (item-read k r after);
     }

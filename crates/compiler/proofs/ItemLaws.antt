@@ -228,7 +228,7 @@ delivers e d = rw e at d
 
 -- ---- the words of a sum without fault
 
-sum-codes : (d : List ℕ) → descriptionFault 3 d ≡ 0 → codesAccepted d ≡ true
+pub sum-codes : (d : List ℕ) → descriptionFault 3 d ≡ 0 → codesAccepted d ≡ true
 unfolding descriptionFault rowOf sumFaultOf
 sum-codes d = go (codesAccepted d)
   where

@@ -2,3 +2,4 @@ pub mod ItemLaws
 pub mod StreamLaws
 pub mod Rising
 pub mod Held
+pub mod Theorems
