@@ -8,20 +8,20 @@ use native.Mathlib.Decide.{decLt}
 use native.Mathlib.Omega.{arith}
 use borrow.Author.Tests.{lt-ltb, eq-eqb}
 use lib.Dec.{T, eqb, ltb, leb, eqb→eq, ltb→lt, leb→le, lit<, lit≤}
-use lib.ListN.{length, getD, replicate, length-append, length-drop, List·getD-map, List·getD-eq-default}
-use lib.Seq.{take-all}
+use lib.ListN.{length, getD, length-append, List·getD-map, List·getD-eq-default}
 use Rattle.lines.proofs.Computed.{everyBelow, every-below}
 use Rattle.lines.proofs.Truth.{and-left, and-right, or-true}
 use Rattle.buffer.specs.declared.Outcome.{Outcome}
 use Rattle.buffer.specs.Room.{bytes, Delivered}
-use Rattle.buffer.proofs.Writing.{fill-all}
 use Rattle.command.specs.Command.{chain, Words}
 use Rattle.command.proofs.Written.{length-chain}
-use Rattle.sheet.specs.Sections.{row, rows, noFault, sections, rowOf, mostOf, faultIf, sumFaultOf, descriptionFault, descriptionSize, recordSize, fieldOf, slotOf, descriptionOf, sumOf}
+use Rattle.sheet.specs.Sections.{row, rows, noFault, sections, rowOf, mostOf, faultIf, sumFaultOf, descriptionFault, fieldOf, slotOf, descriptionOf, sumOf}
 use Rattle.sheet.specs.Parsed.{Faultless}
+use Rattle.sheet.proofs.Written.{sum-whole}
 use Rattle.term.specs.Words.{termWords}
 use Rattle.range.specs.Words.{rangeWords, lowerValue, upperValue}
 use Rattle.edge.specs.Chain.{edgeWords}
+use Rattle.sum.specs.declared.Sum.{Sum}
 use Rattle.sum.specs.Operation.{codesAccepted}
 use Rattle.sum.specs.Chain.{wordsOf, sumWords}
 use Rattle.sum.specs.Address.{sumAddress}
@@ -228,7 +228,7 @@ delivers e d = rw e at d
 
 -- ---- the words of a sum without fault
 
-sum-codes : (d : List ℕ) → descriptionFault 3 d ≡ 0 → codesAccepted d ≡ true
+pub sum-codes : (d : List ℕ) → descriptionFault 3 d ≡ 0 → codesAccepted d ≡ true
 unfolding descriptionFault rowOf sumFaultOf
 sum-codes d = go (codesAccepted d)
   where
@@ -236,18 +236,10 @@ sum-codes d = go (codesAccepted d)
     go true e = refl
     go false e = absurd (omega arith)
 
-sum-ops : (r : List ℕ) → length r ≡ recordSize 3 → sumOf r .ops ≡ descriptionOf r
-unfolding descriptionSize rowOf
-sum-ops r e =
-    let d = descriptionOf r in
-    let n : length d ≡ 11 = length-drop 9 r ∙ omega arith in
-    rw (take-all 11 d (omega arith)) (fill-all d (replicate 11 0) (omega arith))
-
 pub sum-sent : (floor : ℕ) (r : List ℕ) → Faultless 3 floor r → sumWords (sumOf r .ops) .words ≡ wordsOf (descriptionOf r)
 sum-sent floor r f =
     let d = descriptionOf r in
-    let ops : sumOf r .ops ≡ d = sum-ops r (f .whole) in
-    ap (λ (o : List ℕ). sumWords o .words) ops ∙ rw (sum-codes d (f .description-fits))
+    ap (λ (s : Sum). sumWords (s .ops) .words) (sum-whole r (f .whole)) ∙ rw (sum-codes d (f .description-fits))
 
 -- only a section of the sheet has slots
 pub section-known : (k slot : ℕ) → slot < mostOf k → k < sections

@@ -1,6 +1,6 @@
 -- DEMAND 3, its sentences on the notice. For every two accepted sheets of bytes; what is written for them is the rendering of
 -- `noticeLines`, and the bytes determine the lines (NoticeBytes). Assumes nothing.
-use Prim.Native.Nat.{ℕ, _<_}
+use Prim.Native.Nat.{ℕ, zero, suc, _^_, _<_}
 use mathlib.Core.Path.{_≡_, refl, sym, ap, _∙_, subst}
 use mathlib.Core.Bool.{Bool, true, false}
 use mathlib.Core.List.{List, [], List·Memᴰ}
@@ -17,13 +17,14 @@ use Rattle.sheet.specs.Sections.{sections, mostOf, fieldOf, labelOf, descriptio
 use Rattle.sheet.specs.Reading.{verdict}
 use Rattle.term.specs.Rule.{termHit}
 use Rattle.notice.specs.declared.Finding.{Finding}
-use Rattle.notice.specs.declared.Finding.the-variants.{New, Gone, Name, Oper, Word, AltrOne}
+use Rattle.notice.specs.declared.Finding.the-variants.{New, Gone, Name, Oper, Word, AltrOne, AltrTwo}
 use Rattle.notice.specs.Findings.{told, findingOf, line}
-use Rattle.notice.specs.Notice.{noticeLines}
+use Rattle.notice.specs.Notice.{noticeLines, noticeText}
 use Rattle.notice.specs.Shared.{recordOf, Has, Shared}
 use Rattle.notice.proofs.Members.{tag, line-found}
 use Rattle.demands.specs.Apart.{InputTells, SomeInputTells}
 use Rattle.demands.proofs.Tellings.{tellingAt, finding-told, Decides, decides, least, not-itself}
+use Rattle.demands.proofs.NoticeBytes.{Shows, AllValid, each-valid, equal-bytes-equal-lines}
 use Rattle.demands.proofs.SlotLines as slots
 
 -- "an alteration line": one with ALTR, and the input that it shows
@@ -177,3 +178,41 @@ module _ (old new : List ℕ) (bo : Bytes old) (bn : Bytes new) (ao : verdict ol
             ⊎-elim (λ none. none .0) (λ t. absurd (g .3 (record { input = tellingAt k d e; tells = t }))) (decided k slot h (g .0, g .1)) in
             c .1 (g .0, g .1, g .2, sym (finding-told k d e h ∙ ap told q))),
       )
+
+  -- what the lines show can be written, so the bytes determine them
+  finding-shows : (k slot : ℕ) (f : Finding) → List·Memᴰ (line k slot f) (noticeLines old new) → Shows f
+  finding-shows k slot New i = tt
+  finding-shows k slot Gone i = tt
+  finding-shows k slot Name i = tt
+  finding-shows k slot Oper i = tt
+  finding-shows k slot Word i = tt
+  finding-shows k slot (AltrOne s) i = one k (line-found old new k slot (AltrOne s) .0 i .0) i
+    where
+      one : (k : ℕ) → k < sections → List·Memᴰ (line k slot (AltrOne s)) (noticeLines old new) → s < 2 ^ 32
+      one zero h i = line-shows-one-that-does 0 slot (One s) (omega arith) (λ e. slots.one-not-alike s e) i .fits
+      one (suc zero) h i = line-shows-one-that-does 1 slot (One s) (omega arith) (λ e. slots.one-not-alike s e) i .fits
+      one (suc (suc zero)) h i = absurd (line-shows-one-that-does 2 slot (One s) (omega arith) (λ e. slots.one-not-alike s e) i)
+      one (suc (suc (suc k))) h i =
+          absurd (slots.sum-not-told (suc (suc (suc k))) h (One s) (omega arith) _ _ (change-line _ slot (AltrOne s) h (slots.told-late (One s)) .0 i .3))
+  finding-shows k slot (AltrTwo x y) i = two k (line-found old new k slot (AltrTwo x y) .0 i .0) i
+    where
+      two : (k : ℕ) → k < sections → List·Memᴰ (line k slot (AltrTwo x y)) (noticeLines old new) → (x < 2 ^ 32) × (y < 2 ^ 32)
+      two zero h i = absurd (line-shows-one-that-does 0 slot (Two x y) (omega arith) (λ e. slots.two-not-alike x y e) i)
+      two (suc zero) h i = absurd (line-shows-one-that-does 1 slot (Two x y) (omega arith) (λ e. slots.two-not-alike x y e) i)
+      two (suc (suc zero)) h i =
+          let w = line-shows-one-that-does 2 slot (Two x y) (omega arith) (λ e. slots.two-not-alike x y e) i in (w .fits-earlier, w .fits-later)
+      two (suc (suc (suc k))) h i =
+          absurd (slots.sum-not-told (suc (suc (suc k))) h (Two x y) (omega arith) _ _ (change-line _ slot (AltrTwo x y) h (slots.told-late (Two x y)) .0 i .3))
+
+  pub all-lines-valid : AllValid (noticeLines old new)
+  all-lines-valid =
+      each-valid (noticeLines old new)
+      (λ l i. record { known = line-found old new (l .section) (l .slot) (l .finding) .0 i .0; shows = finding-shows (l .section) (l .slot) (l .finding) i })
+
+-- the bytes of a notice determine its lines
+pub bytes-determine-the-lines : (old new old′ new′ : List ℕ) → Bytes old → Bytes new → Bytes old′ → Bytes new′
+    → verdict old ≡ Accepted → verdict new ≡ Accepted → verdict old′ ≡ Accepted → verdict new′ ≡ Accepted
+    → noticeText old new ≡ noticeText old′ new′ → noticeLines old new ≡ noticeLines old′ new′
+unfolding noticeText
+bytes-determine-the-lines old new old′ new′ bo bn bo′ bn′ ao an ao′ an′ e =
+    equal-bytes-equal-lines _ _ (all-lines-valid old new bo bn ao an) (all-lines-valid old′ new′ bo′ bn′ ao′ an′) e

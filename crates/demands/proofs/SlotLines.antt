@@ -82,18 +82,18 @@ unfolding findingOf sumFinding
 finding-sum d e = refl
 
 -- what a changed description gives is none of New, Gone and Name
-changed-tag : (k : ℕ) → k < sections → (d e : List ℕ) → 3 ≤ tag (findingOf k d e)
+pub changed-late : (k : ℕ) → k < sections → (d e : List ℕ) → 3 ≤ tag (findingOf k d e)
 unfolding tag
-changed-tag zero h d e = rw (finding-told 0 d e (omega arith)) (omega (arith, told-tag (tellingAt 0 d e)))
-changed-tag (suc zero) h d e = rw (finding-told 1 d e (omega arith)) (omega (arith, told-tag (tellingAt 1 d e)))
-changed-tag (suc (suc zero)) h d e = rw (finding-told 2 d e (omega arith)) (omega (arith, told-tag (tellingAt 2 d e)))
-changed-tag (suc (suc (suc zero))) h d e = rw (finding-sum d e) (omega arith)
-changed-tag (suc (suc (suc (suc k)))) h d e = absurd (omega arith)
+changed-late zero h d e = rw (finding-told 0 d e (omega arith)) (omega (arith, told-tag (tellingAt 0 d e)))
+changed-late (suc zero) h d e = rw (finding-told 1 d e (omega arith)) (omega (arith, told-tag (tellingAt 1 d e)))
+changed-late (suc (suc zero)) h d e = rw (finding-told 2 d e (omega arith)) (omega (arith, told-tag (tellingAt 2 d e)))
+changed-late (suc (suc (suc zero))) h d e = rw (finding-sum d e) (omega arith)
+changed-late (suc (suc (suc (suc k)))) h d e = absurd (omega arith)
 
 module _ (k : ℕ) (hk : k < sections) where
   late : (o n : List ℕ) (f : Finding) → Changed k o n f → 3 ≤ tag f
   unfolding Changed
-  late o n f r = rw (r .1) (changed-tag k hk (descriptionOf o) (descriptionOf n))
+  late o n f r = rw (r .1) (changed-late k hk (descriptionOf o) (descriptionOf n))
 
   named : (o n : List ℕ) (f : Finding) → Renamed o n f → tag f ≡ 2
   unfolding Renamed tag
@@ -176,3 +176,18 @@ alike-tells-none zero d e w = w
 alike-tells-none (suc zero) d e w = w
 alike-tells-none (suc (suc zero)) d e w = w
 alike-tells-none (suc (suc (suc k))) d e w = w
+
+pub one-not-alike : (s : ℕ) → One s ≡ Alike → ⊥
+one-not-alike s e = let z : _≡_ {A = ℕ} 0 1 = cc in omega arith
+
+pub two-not-alike : (x y : ℕ) → Two x y ≡ Alike → ⊥
+two-not-alike x y e = let z : _≡_ {A = ℕ} 0 1 = cc in omega arith
+
+-- nothing is told of sums
+pub sum-not-told : (k : ℕ) → k < sections → (t : Telling) → 2 < k → (d e : List ℕ) → told t ≡ findingOf k d e → ⊥
+unfolding tag
+sum-not-told zero h t g d e q = omega arith
+sum-not-told (suc zero) h t g d e q = omega arith
+sum-not-told (suc (suc zero)) h t g d e q = omega arith
+sum-not-told (suc (suc (suc zero))) h t g d e q = let z = ap tag (q ∙ finding-sum d e) in omega (arith, told-tag t)
+sum-not-told (suc (suc (suc (suc k)))) h t g d e q = omega arith
