@@ -5,7 +5,7 @@ use mathlib.Core.List.{List, [], _∷_}
 use Prim.Native.Nat.{ℕ, zero, suc, _+_, _*_, _/_, _%_, _^_, _<_}
 use native.Mathlib.Omega.{arith}
 use lib.Bits.{bitAnd, bitXor}
-use lib.Dec.{eqb}
+use lib.Dec.{eqb, lit<}
 use lib.ListN.{length, getD}
 use Rattle.lines.specs.Line.{line, overLines}
 use Rattle.lines.proofs.Computed.{nibbles, every-within}
@@ -82,6 +82,17 @@ words-length (suc k) t m = ap suc (words-length k t m)
 pub term-words-length : (t m : ℕ) → length (termWords t m) ≡ 4
 unfolding termWords
 term-words-length t m = words-length 4 t m
+
+-- each word has 32 bits
+words-fit : (k t m i : ℕ) → getD (wordsDown k t m) i 0 < 2 ^ 32
+unfolding wordsDown
+words-fit zero t m i = lit< tt
+words-fit (suc k) t m zero = word-fits (t / 2 ^ (8 * k)) (m / 2 ^ (8 * k))
+words-fit (suc k) t m (suc i) = words-fit k t m i
+
+pub term-words-fit : (t m i : ℕ) → getD (termWords t m) i 0 < 2 ^ 32
+unfolding termWords
+term-words-fit t m i = words-fit 4 t m i
 
 chain-hit : (k t m s : ℕ) → chainHit (wordsDown k t m) s ≡ linesHit (8 * k) t m s
 unfolding chainHit wordsDown overLines
