@@ -1,0 +1,95 @@
+// Items: the commands of one record, written at the start of lent room.
+ghost use mathlib.Core.Path.{_≡_};
+ghost use Rattle.buffer.specs.Room.{bytes, Delivered};
+ghost use Rattle.sheet.specs.Parsed.{Faultless};
+ghost use Rattle.compiler.specs.Items.{item, itemSize};
+use buffer::OUTPUT_TOO_SHORT;
+use buffer::Outcome;
+use sheet::SECTIONS;
+
+// The addresses of the first slots; a sum's address is known to its crate.
+const TERM_ADDRESS: u32 = 0x20;
+
+const RANGE_ADDRESS: u32 = 0x30;
+
+const EDGE_ADDRESS: u32 = 0x34;
+
+// How many bytes an item of each section takes up: five for each select and for each word.
+const ITEM_SIZE: [usize; SECTIONS] = [25, 170, 45, 35];
+
+// Where a range's upper chain begins, behind the lower one.
+const UPPER_CHAIN: usize = 85;
+
+// How many bytes an item of a section takes up; none for a section that no sheet has.
+pub(crate) fn item_size(section: usize) -> usize
+    ensures { λ r. ⌜ r ≡ itemSize section ⌝ }
+{
+    if section < SECTIONS {
+        ITEM_SIZE[section]
+    } else {
+        0
+    }
+}
+
+fn put_term(out: &mut [u8], rec: &[u8]) -> Outcome
+    ensures { λ r. ⌜ Delivered (bytes (item 0 (now (rec .entry)))) (now (out .entry)) r (now (out .exit)) ⌝ }
+{
+    let description = sheet::description(rec);
+    let words = term::term_words(sheet::field(description, 0), sheet::field(description, 1));
+    command::put_chain(out, TERM_ADDRESS + sheet::slot(rec) as u32, &words)
+}
+
+// The two chains of a range, the upper one at the next address, in the room behind the lower one.
+fn put_range(out: &mut [u8], rec: &[u8]) -> Outcome
+    ensures { λ r. ⌜ Delivered (bytes (item 1 (now (rec .entry)))) (now (out .entry)) r (now (out .exit)) ⌝ }
+{
+    let needed = item_size(1);
+    if out.len() < needed {
+        return Outcome::Refused(OUTPUT_TOO_SHORT, needed);
+    }
+    let description = sheet::description(rec);
+    let address = RANGE_ADDRESS + 2 * sheet::slot(rec) as u32;
+    let chains = range::range_words(
+        sheet::field(description, 0),
+        sheet::field(description, 1),
+        sheet::field(description, 2),
+    );
+    command::put_chain(out, address, &chains[0]);
+    command::put_chain(&mut out[UPPER_CHAIN..], address + 1, &chains[1]);
+    Outcome::Done(needed)
+}
+
+fn put_edge(out: &mut [u8], rec: &[u8]) -> Outcome
+    ensures { λ r. ⌜ Delivered (bytes (item 2 (now (rec .entry)))) (now (out .entry)) r (now (out .exit)) ⌝ }
+{
+    let description = sheet::description(rec);
+    let words = edge::edge_words(
+        sheet::field(description, 0),
+        sheet::field(description, 1),
+        sheet::field(description, 2),
+    );
+    command::put_chain(out, EDGE_ADDRESS + sheet::slot(rec) as u32, &words)
+}
+
+// A sum without fault: each of its operation bytes is a code, and has its word.
+fn put_sum(out: &mut [u8], rec: &[u8]) -> Outcome
+    requires { ⌜ Faultless 3 0 (now rec) ⌝ }
+    ensures { λ r. ⌜ Delivered (bytes (item 3 (now (rec .entry)))) (now (out .entry)) r (now (out .exit)) ⌝ }
+{
+    let sent = sum::sum_words(sheet::sum_record(rec));
+    let words = sent.words;
+    command::put_chain(out, sum::sum_address(sheet::slot(rec)), &words)
+}
+
+// The item of a record without fault.
+pub(crate) fn put_item(out: &mut [u8], section: usize, rec: &[u8]) -> Outcome
+    requires { ⌜ Faultless section 0 (now rec) ⌝ }
+    ensures { λ r. ⌜ Delivered (bytes (item section (now (rec .entry)))) (now (out .entry)) r (now (out .exit)) ⌝ }
+{
+    match section {
+        0 => put_term(out, rec),
+        1 => put_range(out, rec),
+        2 => put_edge(out, rec),
+        _ => put_sum(out, rec),
+    }
+}
