@@ -10,6 +10,8 @@ use stream::put_stream;
 mod items;
 mod stream;
 
+pub use items::item_size;
+
 // The commands of a sheet, written at the start of `out`.
 pub fn compile(sheet: &[u8], out: &mut [u8]) -> Outcome
     ensures { λ r. ⌜ Delivered (compiled (now (sheet .entry))) (now (out .entry)) r (now (out .exit)) ⌝ }
