@@ -2,6 +2,7 @@
 ghost use mathlib.Core.Path.{_≡_};
 ghost use Prim.Native.Nat.{_<_};
 ghost use lib.ListN.{getD, take, drop};
+ghost use Rattle.lines.specs.Same.{same};
 ghost use Rattle.buffer.specs.Bytes.{u32At, allWithin};
 
 // The byte at an offset, 0 past the end.
@@ -59,6 +60,23 @@ pub fn all_within(low: u8, high: u8, bytes: &[u8]) -> bool
             return false;
         }
         if high < b {
+            return false;
+        }
+        i += 1;
+    }
+    true
+}
+
+// Whether two parts have the same bytes.
+pub fn same_bytes(a: &[u8], b: &[u8]) -> bool
+    ensures { λ r. ⌜ r ≡ same (now (a .entry)) (now (b .entry)) ⌝ }
+{
+    if a.len() != b.len() {
+        return false;
+    }
+    let mut i = 0;
+    while i < a.len() {
+        if a[i] != b[i] {
             return false;
         }
         i += 1;

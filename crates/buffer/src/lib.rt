@@ -1,6 +1,6 @@
 // Bytes and lent room: what every call of the house reads from, writes into, and answers.
 // Promises: readers and writers are total; a writer that refuses changes nothing, one that writes leaves what lies beyond.
-// Rests on: no other crate.
+// Rests on: lines (lists compared).
 ghost use mathlib.Core.Path.{_≡_};
 ghost use Rattle.buffer.specs.Verdict.{verdictNumber, verdictPlace, outcomeNumber, outcomePlace};
 
@@ -10,6 +10,7 @@ mod room;
 pub use bytes::all_within;
 pub use bytes::byte_at;
 pub use bytes::prefix;
+pub use bytes::same_bytes;
 pub use bytes::suffix;
 pub use bytes::u32_at;
 pub use room::put_at;

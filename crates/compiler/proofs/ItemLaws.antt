@@ -3,25 +3,25 @@
 use Prim.Native.Nat.{ℕ, zero, suc, _+_, _*_, _≤_, _<_}
 use mathlib.Core.Path.{_≡_, refl, sym, ap, ap₂, _∙_}
 use mathlib.Core.Bool.{Bool, true, false, cond, not, _&&_, _||_, true≢false}
-use mathlib.Core.List.{List, [], _∷_, _++_, append-nil, map}
+use mathlib.Core.List.{List, [], _∷_, append-nil, map}
 use native.Mathlib.Decide.{decLt}
 use native.Mathlib.Omega.{arith}
 use borrow.Author.Tests.{lt-ltb, eq-eqb}
 use lib.Dec.{T, eqb, ltb, leb, eqb→eq, ltb→lt, leb→le, lit<, lit≤}
-use lib.ListN.{length, getD, replicate, length-append, length-drop, List·getD-map, List·getD-eq-default}
-use lib.Seq.{take-all}
+use lib.ListN.{length, getD, length-append, List·getD-map, List·getD-eq-default}
 use Rattle.lines.proofs.Computed.{everyBelow, every-below}
 use Rattle.lines.proofs.Truth.{and-left, and-right, or-true}
 use Rattle.buffer.specs.declared.Outcome.{Outcome}
 use Rattle.buffer.specs.Room.{bytes, Delivered}
-use Rattle.buffer.proofs.Writing.{fill-all}
 use Rattle.command.specs.Command.{chain, Words}
 use Rattle.command.proofs.Written.{length-chain}
-use Rattle.sheet.specs.Sections.{row, rows, noFault, sections, rowOf, mostOf, faultIf, sumFaultOf, descriptionFault, descriptionSize, recordSize, fieldOf, slotOf, descriptionOf, sumOf}
+use Rattle.sheet.specs.Sections.{row, rows, noFault, sections, rowOf, mostOf, faultIf, sumFaultOf, descriptionFault, fieldOf, slotOf, descriptionOf, sumOf}
 use Rattle.sheet.specs.Parsed.{Faultless}
+use Rattle.sheet.proofs.Written.{sum-whole}
 use Rattle.term.specs.Words.{termWords}
 use Rattle.range.specs.Words.{rangeWords, lowerValue, upperValue}
 use Rattle.edge.specs.Chain.{edgeWords}
+use Rattle.sum.specs.declared.Sum.{Sum}
 use Rattle.sum.specs.Operation.{codesAccepted}
 use Rattle.sum.specs.Chain.{wordsOf, sumWords}
 use Rattle.sum.specs.Address.{sumAddress}
@@ -53,7 +53,7 @@ of-kind P e n k = each-at P kinds e n k
 -- ---- words
 
 -- how many there are, chain by chain
-range-lengths : (d : List ℕ) → map length (rangeChains d) ≡ 16 ∷ 16 ∷ []
+pub range-lengths : (d : List ℕ) → map length (rangeChains d) ≡ 16 ∷ 16 ∷ []
 unfolding rangeWords
 range-lengths d =
     let mask = fieldOf d 2 in
@@ -113,6 +113,19 @@ pub item-length : (k : ℕ) (r : List ℕ) → length (item k r) ≡ itemSize k
 unfolding item itemSize
 item-length k r = chains-length (addressOf k (slotOf r)) (chainsOf k (descriptionOf r)) ∙ ap sizeOf (chains-lengths k (descriptionOf r))
 
+-- no item is long
+pub item-bound : (k : ℕ) → itemSize k ≤ 1024
+unfolding itemSize lengthsOf sizeOf
+item-bound k = of-kind (λ x. sizeOf (x .lengths) ≤ 1024) (lit≤ tt, (lit≤ tt, (lit≤ tt, (lit≤ tt, tt)))) (lit≤ tt) k
+
+-- the sizes as a table, by section
+pub item-sizes : (k : ℕ) → getD (25 ∷ 170 ∷ 45 ∷ 35 ∷ []) k 0 ≡ itemSize k
+unfolding itemSize lengthsOf kindOf sizeOf
+item-sizes k = List·getD-map (λ (x : Kind). sizeOf (x .lengths)) kinds k none
+
+pub item-size-past : (k : ℕ) → sections ≤ k → itemSize k ≡ 0
+item-size-past k h = sym (item-sizes k) ∙ List·getD-eq-default (25 ∷ 170 ∷ 45 ∷ 35 ∷ []) 0 {n = k} h
+
 -- ---- addresses
 
 pub address-small : (k slot : ℕ) → k < sections → slot < mostOf k → addressOf k slot < 128
@@ -138,7 +151,7 @@ placeIn (x ∷ xs) k = cond (eqb x k) 0 (suc (placeIn xs k))
 abbrev pub placeOf : ℕ → ℕ
 placeOf k = placeIn sendingOrder k
 
--- every section is sent
+-- each has its place there
 abbrev sentOnce : ℕ → Bool
 sentOnce k = ltb (placeOf k) (length sendingOrder) && eqb (sentAs (placeOf k)) k
 
@@ -150,6 +163,10 @@ place-below k h = ltb→lt _ _ (and-left (ltb (placeOf k) (length sendingOrder))
 
 pub place-sent : (k : ℕ) → k < sections → sentAs (placeOf k) ≡ k
 place-sent k h = eqb→eq _ _ (and-right (ltb (placeOf k) (length sendingOrder)) (eqb (sentAs (placeOf k)) k) (sent-once k h))
+
+-- only sections of the sheet are sent
+pub sent-known : (i : ℕ) → i < length sendingOrder → sentAs i < sections
+sent-known i h = ltb→lt _ _ (every-below (length sendingOrder) (λ i. ltb (sentAs i) sections) tt i h)
 
 -- the item of slot a in the section sent as number i goes before that of slot b in the section sent as number j
 abbrev before : (i a j b : ℕ) → Bool
@@ -190,45 +207,15 @@ address-later i j a b hij hj ha hb =
     by-test (before i a j b) (addressOf (sentAs i) a + length (lengthsOf (sentAs i))) (addressOf (sentAs j) b) (simp (lt-ltb i j hij))
     (risen i a j b (omega arith) ha hj hb)
 
--- no item is long
-pub item-bound : (k : ℕ) → itemSize k ≤ 1024
-unfolding itemSize lengthsOf sizeOf
-item-bound k = of-kind (λ x. sizeOf (x .lengths) ≤ 1024) (lit≤ tt, (lit≤ tt, (lit≤ tt, (lit≤ tt, tt)))) (lit≤ tt) k
-
--- the sizes as a table, by section
-pub item-sizes : (k : ℕ) → getD (25 ∷ 170 ∷ 45 ∷ 35 ∷ []) k 0 ≡ itemSize k
-unfolding itemSize lengthsOf kindOf sizeOf
-item-sizes k = List·getD-map (λ (x : Kind). sizeOf (x .lengths)) kinds k none
-
-pub item-size-past : (k : ℕ) → sections ≤ k → itemSize k ≡ 0
-item-size-past k h = sym (item-sizes k) ∙ List·getD-eq-default (25 ∷ 170 ∷ 45 ∷ 35 ∷ []) 0 {n = k} h
-
 -- ---- the item of a record, kind by kind
 
 pub item-term : (r : List ℕ) → item 0 r ≡ chain (0x20 + slotOf r) (termWords (fieldOf (descriptionOf r) 0) (fieldOf (descriptionOf r) 1))
 unfolding item addressOf chainsOf kindOf chainsFrom
 item-term r = append-nil _
 
--- the two chains of a range
-abbrev pub lowerOf : List ℕ → List ℕ
-lowerOf r = getD (rangeChains (descriptionOf r)) 0 []
-
-abbrev pub upperOf : List ℕ → List ℕ
-upperOf r = getD (rangeChains (descriptionOf r)) 1 []
-
-pub item-range : (r : List ℕ) → item 1 r ≡ chain (0x30 + 2 * slotOf r) (lowerOf r) ++ chain (0x30 + 2 * slotOf r + 1) (upperOf r)
-unfolding item addressOf chainsOf kindOf chainsFrom rangeWords
-item-range r =
-    let a = 0x30 + 2 * slotOf r in
-    ap (λ (bs : List ℕ). chain a (lowerOf r) ++ bs) (append-nil (chain (a + 1) (upperOf r)))
-
-pub lower-length : (r : List ℕ) → length (lowerOf r) ≡ 16
-unfolding rangeWords
-lower-length r = range.length-chain (fieldOf (descriptionOf r) 2) (lowerValue (fieldOf (descriptionOf r) 0) (fieldOf (descriptionOf r) 2))
-
-pub upper-length : (r : List ℕ) → length (upperOf r) ≡ 16
-unfolding rangeWords
-upper-length r = range.length-chain (fieldOf (descriptionOf r) 2) (upperValue (fieldOf (descriptionOf r) 1) (fieldOf (descriptionOf r) 2))
+pub item-range : (r : List ℕ) → item 1 r ≡ chainsFrom (0x30 + 2 * slotOf r) (rangeChains (descriptionOf r))
+unfolding item addressOf chainsOf kindOf
+item-range r = refl
 
 pub item-edge : (r : List ℕ)
     → item 2 r ≡ chain (0x34 + slotOf r) (edgeWords (fieldOf (descriptionOf r) 0) (fieldOf (descriptionOf r) 1) (fieldOf (descriptionOf r) 2))
@@ -245,7 +232,7 @@ delivers e d = rw e at d
 
 -- ---- the words of a sum without fault
 
-sum-codes : (d : List ℕ) → descriptionFault 3 d ≡ 0 → codesAccepted d ≡ true
+pub sum-codes : (d : List ℕ) → descriptionFault 3 d ≡ 0 → codesAccepted d ≡ true
 unfolding descriptionFault rowOf sumFaultOf
 sum-codes d = go (codesAccepted d)
   where
@@ -253,18 +240,10 @@ sum-codes d = go (codesAccepted d)
     go true e = refl
     go false e = absurd (omega arith)
 
-sum-ops : (r : List ℕ) → length r ≡ recordSize 3 → sumOf r .ops ≡ descriptionOf r
-unfolding descriptionSize rowOf
-sum-ops r e =
-    let d = descriptionOf r in
-    let n : length d ≡ 11 = length-drop 9 r ∙ omega arith in
-    rw (take-all 11 d (omega arith)) (fill-all d (replicate 11 0) (omega arith))
-
 pub sum-sent : (floor : ℕ) (r : List ℕ) → Faultless 3 floor r → sumWords (sumOf r .ops) .words ≡ wordsOf (descriptionOf r)
 sum-sent floor r f =
     let d = descriptionOf r in
-    let ops : sumOf r .ops ≡ d = sum-ops r (f .whole) in
-    ap (λ (o : List ℕ). sumWords o .words) ops ∙ rw (sum-codes d (f .description-fits))
+    ap (λ (s : Sum). sumWords (s .ops) .words) (sum-whole r (f .whole)) ∙ rw (sum-codes d (f .description-fits))
 
 -- only a section of the sheet has slots
 pub section-known : (k slot : ℕ) → slot < mostOf k → k < sections
@@ -274,7 +253,3 @@ section-known k slot h =
       | yes l ↦ l
       | no n ↦ absurd (omega (arith, rw (List·getD-eq-default rows (row 0 0 noFault) {n = k} (omega arith)) at h))
     ]
-
--- only sections of the sheet are sent
-pub sent-known : (i : ℕ) → i < length sendingOrder → sentAs i < sections
-sent-known i h = ltb→lt _ _ (every-below (length sendingOrder) (λ i. ltb (sentAs i) sections) tt i h)

@@ -1,2 +1,5 @@
 pub mod ItemLaws
 pub mod StreamLaws
+pub mod Rising
+pub mod Held
+pub mod Theorems

@@ -1,7 +1,7 @@
 -- Laws of the stream: its length, how loops over records and over sections go through it, and what the records of an accepted
 -- sheet are. Assumes nothing.
 use Prim.Native.Nat.{ℕ, _+_, _*_, _≤_, _<_}
-use mathlib.Core.Path.{_≡_, sym, ap₂, _∙_}
+use mathlib.Core.Path.{_≡_, sym, ap, ap₂, _∙_}
 use mathlib.Core.List.{List, [], _∷_, _++_}
 use native.Mathlib.Nat.{zero-mul, suc-mul, add-comm, mul-le-mul}
 use native.Mathlib.Numerals.{add-one}
@@ -9,14 +9,14 @@ use native.Mathlib.Omega.{arith}
 use lib.ListN.{length, getD, drop, length-append, drop-of-length-le}
 use lib.Seq.{drop-cons}
 use Rattle.buffer.specs.declared.Verdict.the-variants.{Accepted}
-use Rattle.sheet.specs.Sections.{sections}
+use Rattle.sheet.specs.Sections.{sections, mostOf}
 use Rattle.sheet.specs.Reading.{verdict}
 use Rattle.sheet.specs.Parts.{sectionUnchecked, recordCount, recordAt}
-use Rattle.sheet.specs.Parsed.{joined, Faultless, parse}
+use Rattle.sheet.specs.Parsed.{parse}
 use Rattle.sheet.proofs.Bounds.{most-byte}
-use Rattle.sheet.proofs.Reading.{unchecked}
 use Rattle.sheet.proofs.Parsed.{ordered-count}
-use Rattle.sheet.proofs.Records.{section-ordered, section-joined, record-of, count-of, record-faultless}
+use Rattle.sheet.proofs.Records.{section-ordered}
+use Rattle.sheet.proofs.Theorems.{unchecked-is-section, section-count, section-record}
 use Rattle.compiler.specs.Items.{item, itemSize}
 use Rattle.compiler.specs.Stream.{items, sent}
 use Rattle.compiler.proofs.ItemLaws.{item-length, item-bound}
@@ -55,20 +55,16 @@ sent-end order p i h = rw (drop-of-length-le order {i = i} h)
 -- ---- the records of an accepted sheet, as they are found in a section's part
 
 module _ (s : List ℕ) (ok : verdict s ≡ Accepted) (k : ℕ) (h : k < sections) where
-  part-joined : sectionUnchecked s k ≡ joined (getD (parse s) k [])
-  part-joined = sym (unchecked s k ok) ∙ section-joined s k h ok
-
   pub part-count : recordCount k (sectionUnchecked s k) ≡ length (getD (parse s) k [])
-  part-count = rw part-joined (count-of (section-ordered s k h ok))
+  part-count = ap (recordCount k) (unchecked-is-section s k ok) ∙ section-count s k h ok
 
   pub part-record : (i : ℕ) → i < length (getD (parse s) k []) → recordAt k (sectionUnchecked s k) i ≡ getD (getD (parse s) k []) i []
-  part-record i l = rw part-joined (record-of (section-ordered s k h ok) i l)
+  part-record i l = ap (λ (part : List ℕ). recordAt k part i) (unchecked-is-section s k ok) ∙ section-record s k h ok i l
 
-  pub part-faultless : (i : ℕ) → i < length (getD (parse s) k []) → Faultless k 0 (getD (getD (parse s) k []) i [])
-  part-faultless i l = record-faultless (section-ordered s k h ok) i l
-
-  pub part-few : length (getD (parse s) k []) ≤ 255
-  part-few = omega (arith, ordered-count (section-ordered s k h ok) (omega arith), most-byte k)
+  pub part-most : length (getD (parse s) k []) ≤ mostOf k
+  part-most = omega (arith, ordered-count (section-ordered s k h ok) (omega arith))
 
   pub part-bound : length (getD (parse s) k []) * itemSize k ≤ 262144
-  part-bound = omega (arith, mul-le-mul {n₁ = length (getD (parse s) k [])} {m₁ = itemSize k} {n₂ = 255} {m₂ = 1024} part-few (item-bound k))
+  part-bound =
+      let few : length (getD (parse s) k []) ≤ 255 = omega (arith, part-most, most-byte k) in
+      omega (arith, mul-le-mul {n₁ = length (getD (parse s) k [])} {m₁ = itemSize k} {n₂ = 255} {m₂ = 1024} few (item-bound k))

@@ -1,8 +1,11 @@
 // Items: the commands of one record, written at the start of lent room.
 ghost use mathlib.Core.Path.{_≡_};
+ghost use mathlib.Core.List.{[], _∷_, map};
+ghost use Prim.Native.Nat.{_<_};
+ghost use lib.ListN.{length};
 ghost use Rattle.buffer.specs.Room.{bytes, Delivered};
 ghost use Rattle.sheet.specs.Parsed.{Faultless};
-ghost use Rattle.compiler.specs.Items.{item, itemSize};
+ghost use Rattle.compiler.specs.Items.{chainsFrom, item, itemSize};
 use buffer::OUTPUT_TOO_SHORT;
 use buffer::Outcome;
 use sheet::SECTIONS;
@@ -17,8 +20,8 @@ const EDGE_ADDRESS: u32 = 0x34;
 // How many bytes an item of each section takes up: five for each select and for each word.
 const ITEM_SIZE: [usize; SECTIONS] = [25, 170, 45, 35];
 
-// Where a range's upper chain begins, behind the lower one.
-const UPPER_CHAIN: usize = 85;
+// How many bytes a chain of sixteen words takes up.
+const PAIRED_CHAIN: usize = 85;
 
 // How many bytes an item of a section takes up; none for a section that no sheet has.
 pub fn item_size(section: usize) -> usize
@@ -39,24 +42,30 @@ fn put_term(out: &mut [u8], rec: &[u8]) -> Outcome
     command::put_chain(out, TERM_ADDRESS + sheet::slot(rec) as u32, &words)
 }
 
-// The two chains of a range, the upper one at the next address, in the room behind the lower one.
+// Two chains of sixteen words at neighbouring addresses, the second in the room behind the first.
+fn put_pair(out: &mut [u8], address: u32, chains: [[u32; 16]; 2]) -> Outcome
+    requires { ⌜ (address < 1024) × (map length chains ≡ 16 ∷ 16 ∷ []) ⌝ }
+    ensures { λ r. ⌜ Delivered (bytes (chainsFrom address chains)) (now (out .entry)) r (now (out .exit)) ⌝ }
+{
+    if out.len() < 2 * PAIRED_CHAIN {
+        return Outcome::Refused(OUTPUT_TOO_SHORT, 2 * PAIRED_CHAIN);
+    }
+    command::put_chain(out, address, &chains[0]);
+    command::put_chain(&mut out[PAIRED_CHAIN..], address + 1, &chains[1]);
+    Outcome::Done(2 * PAIRED_CHAIN)
+}
+
+// A range's lower chain, then its upper one.
 fn put_range(out: &mut [u8], rec: &[u8]) -> Outcome
     ensures { λ r. ⌜ Delivered (bytes (item 1 (now (rec .entry)))) (now (out .entry)) r (now (out .exit)) ⌝ }
 {
-    let needed = item_size(1);
-    if out.len() < needed {
-        return Outcome::Refused(OUTPUT_TOO_SHORT, needed);
-    }
     let description = sheet::description(rec);
-    let address = RANGE_ADDRESS + 2 * sheet::slot(rec) as u32;
     let chains = range::range_words(
         sheet::field(description, 0),
         sheet::field(description, 1),
         sheet::field(description, 2),
     );
-    command::put_chain(out, address, &chains[0]);
-    command::put_chain(&mut out[UPPER_CHAIN..], address + 1, &chains[1]);
-    Outcome::Done(needed)
+    put_pair(out, RANGE_ADDRESS + 2 * sheet::slot(rec) as u32, chains)
 }
 
 fn put_edge(out: &mut [u8], rec: &[u8]) -> Outcome

@@ -12,6 +12,9 @@ mod stream;
 
 pub use items::item_size;
 
+// The most bytes that the commands of a sheet take up (proofs/Theorems, at-most).
+pub const MOST_BYTES: usize = 2360;
+
 // The commands of a sheet, written at the start of `out`.
 pub fn compile(sheet: &[u8], out: &mut [u8]) -> Outcome
     ensures { λ r. ⌜ Delivered (compiled (now (sheet .entry))) (now (out .entry)) r (now (out .exit)) ⌝ }

@@ -1,28 +1,73 @@
 -- The bench examples that 01 marks P, as one table (01, "Bench examples").
-use mathlib.Core.Bool.{Bool, true, _&&_}
-use mathlib.Core.List.{List, [], _∷_}
+use mathlib.Core.Bool.{Bool, true, false, _&&_, Bool·beq}
+use mathlib.Core.List.{List, [], _∷_, _++_}
 use Prim.Native.Nat.{ℕ}
 use lib.Dec.{eqb}
+use lib.ListN.{replicate}
 use Rattle.lines.specs.Gather.{gathered}
 use Rattle.lines.specs.Same.{same}
+use Rattle.lut.specs.declared.Telling.{Telling}
+use Rattle.lut.specs.declared.Telling.the-variants.{Alike, One, Two}
 use Rattle.term.specs.Words.{termWords}
+use Rattle.range.specs.Rule.{rangeHit, rangeFault}
+use Rattle.range.specs.Words.{sentWords}
+use Rattle.range.specs.Tell.{tellingOf}
+use Rattle.edge.specs.Chain.{edgeWords}
 
--- what an example says: these are the words of a pattern; this is what a sample gathers to
+-- what an example says
 pub data Example : Type 0 where
+  -- these are the words of a pattern, of a range, of an edge
   pattern : (target mask : ℕ) → List ℕ → Example
+  range : (lower upper mask : ℕ) → List ℕ → Example
+  edge : (rise fall neither : ℕ) → List ℕ → Example
+  -- this range hits the sample, or misses it
+  hits : (lower upper mask sample : ℕ) → Bool → Example
+  -- this is what the sample gathers to
   gathers : (mask sample number : ℕ) → Example
+  -- this refusal number is the range's, 0 if it is accepted
+  refused : (lower upper mask number : ℕ) → Example
+  -- WORD: no sample tells these two ranges apart
+  word : (lower upper mask lower′ upper′ mask′ : ℕ) → Example
+
+abbrev pub isAlike : Telling → Bool
+isAlike Alike = true
+isAlike (One sample) = false
+isAlike (Two earlier later) = false
 
 unfoldable pub holds : Example → Bool
 holds (pattern target mask words) = same (termWords target mask) words
+holds (range lower upper mask words) = same (sentWords lower upper mask) words
+holds (edge rise fall neither words) = same (edgeWords rise fall neither) words
+holds (hits lower upper mask sample hit) = Bool·beq (rangeHit lower upper mask sample) hit
 holds (gathers mask sample number) = eqb (gathered 32 sample mask) number
+holds (refused lower upper mask number) = eqb (rangeFault lower upper mask) number
+holds (word lower upper mask lower′ upper′ mask′) =
+    isAlike
+    (tellingOf (record { lower = lower; upper = upper; mask = mask }) (record { lower = lower′; upper = upper′; mask = mask′ }))
 
 unfoldable pub allHold : List Example → Bool
 allHold [] = true
 allHold (e ∷ es) = holds e && allHold es
 
+-- so many words FFFFFFFF, and then these
+abbrev pub after : (n : ℕ) → List ℕ → List ℕ
+after n words = replicate n 0xFFFFFFFF ++ words
+
 unfoldable pub bench : List Example
 bench =
-    pattern 5 0xF (0xFFFFFFFF ∷ 0xFFFFFFFF ∷ 0xFFFFFFFF ∷ 0xFFFF0020 ∷ [])
-    ∷ pattern 5 0 (0xFFFFFFFF ∷ 0xFFFFFFFF ∷ 0xFFFFFFFF ∷ 0xFFFFFFFF ∷ [])
+    pattern 5 0xF (after 3 (0xFFFF0020 ∷ []))
+    ∷ pattern 5 0 (after 4 [])
+    ∷ range 3 9 0xF (after 14 (0x55555555 ∷ 0xAAAA5555 ∷ after 14 (0xAAAA5555 ∷ 0x5555AAAA ∷ [])))
+    ∷ hits 3 9 0xF 2 false
+    ∷ hits 3 9 0xF 0xA false
+    ∷ hits 3 9 0xF 3 true
+    ∷ hits 3 9 0xF 9 true
+    ∷ hits 3 9 0xF 0x13 true
     ∷ gathers 0x8A80 0x0880 5
+    ∷ refused 0 1 1 6
+    ∷ refused 1 1 1 0
+    ∷ refused 1 2 1 8
+    ∷ word 2 3 3 1 1 2
+    ∷ edge 1 0 0 (0 ∷ 0 ∷ 0 ∷ 0 ∷ 0 ∷ 0 ∷ 0 ∷ 0x00000A0A ∷ [])
+    ∷ edge 0x80000000 0 0 (0x00CC0000 ∷ 0 ∷ 0 ∷ 0 ∷ 0 ∷ 0 ∷ 0 ∷ 0 ∷ [])
     ∷ []

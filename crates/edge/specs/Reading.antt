@@ -46,5 +46,6 @@ wishOf t ws = wishFrom (upperTable t) (lowerTable t) ws 0
 abbrev pub readAs : List ℕ → (rise fall neither : ℕ) → ReadEdge
 readAs ws r f n = cond (edgeAccepted r f n && same ws (edgeWords r f n)) (Edge r f n) Refused
 
+-- the one candidate: each event's lines, read off the words
 abbrev pub readEdge : List ℕ → ReadEdge
 readEdge ws = readAs ws (wishOf Rise ws) (wishOf Fall ws) (wishOf Neither ws)

@@ -18,7 +18,7 @@ happens Neither e l = eqb e l
 abbrev pub lineHit : (r f n earlier later : ℕ) → Bool
 lineHit r f n e l = (eqb r 1 && happens Rise e l) || ((eqb f 1 && happens Fall e l) || (eqb n 1 && happens Neither e l))
 
--- one of the lowest k lines has
+-- one of the lowest k lines has an asked-for event
 abbrev pub linesHit : (k rise fall neither earlier later : ℕ) → Bool
 linesHit k r f n e l = anyLine k (λ i. lineHit (line r i) (line f i) (line n i) (line e i) (line l i))
 
@@ -30,7 +30,7 @@ edgeHit = linesHit 32
 abbrev pub lineAccepted : (r f n : ℕ) → Bool
 lineAccepted r f n = not (eqb n 1 && (eqb r 1 || eqb f 1))
 
--- of none of the lowest k lines
+-- every one of the lowest k lines is accepted
 abbrev pub linesAccepted : (k rise fall neither : ℕ) → Bool
 linesAccepted k r f n = everyLine k (λ i. lineAccepted (line r i) (line f i) (line n i))
 

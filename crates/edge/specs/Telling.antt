@@ -1,5 +1,5 @@
 -- Two samples that tell two accepted descriptions apart ("telling sample" is 01's own term): on each line where one asks for an event and the
--- other does not, show that event; on every other line show something that the other does not ask for. There is such a thing, since no line asks for all three.
+-- other does not, show that event; on every other line show something that the other does not ask for, which there is: no line asks for all three.
 use Prim.Native.Nat.{ℕ}
 use mathlib.Core.Bool.{Bool, cond}
 use lib.Bits.{bitAnd, bitOr, bitXor}
@@ -43,6 +43,7 @@ laterOf Rise d r n = bitOr (without (without n r) d) d
 laterOf Fall d r n = without (without n r) d
 laterOf Neither d r n = without (without n r) d
 
+-- the two samples, and the description that they make miss
 abbrev pub showing : Event → (d : ℕ) → Edge → Telling
 showing t d missed = Two (earlierOf t d (missed .rise) (missed .neither)) (laterOf t d (missed .rise) (missed .neither))
 
@@ -54,6 +55,7 @@ tellBy t a b others = cond (eqb (without (asked t a) (asked t b)) 0) others (sho
 abbrev pub tellOne : (a b : Edge) → Telling
 tellOne a b = tellBy Rise a b (tellBy Fall a b (tellBy Neither a b Alike))
 
+-- the first answer that has samples
 abbrev pub orElse : Telling → Telling → Telling
 orElse Alike other = other
 orElse (One sample) other = One sample

@@ -1,6 +1,6 @@
 -- The laws of chain words: how many there are, which word stands where, and which table a word holds for a line. Assumes nothing.
 use mathlib.Core.Path.{_≡_, refl, sym, ap, ap₂, _∙_}
-use mathlib.Core.List.{List, _++_}
+use mathlib.Core.List.{List, [], _++_}
 use Prim.Native.Nat.{ℕ, zero, suc, _+_, _-_, _*_, _/_, _%_, _^_, _<_}
 use native.Mathlib.Nat.{le-of-suc-le-suc, not-suc-le-zero, div-add-mod'}
 use native.Mathlib.Decide.{decLt}
@@ -12,7 +12,7 @@ use Rattle.lines.specs.Line.{line, choose}
 use Rattle.lines.specs.Gather.{scattered}
 use Rattle.lut.specs.Table.{high, low, wordOf}
 use Rattle.lut.proofs.Halves.{high-half, low-half, word-lt}
-use Rattle.range.specs.Words.{tableFor, lineTable, pairWord, wordsDown, chainWords, lowerValue, upperValue, lowerChain, upperChain, sentWords}
+use Rattle.range.specs.Words.{tableFor, lineTable, pairWord, wordsDown, chainWords, lowerValue, upperValue, lowerChain, upperChain, rangeWords, sentWords}
 use Rattle.range.specs.Model.{tableAt, lowerTable, upperTable}
 
 -- a table has sixteen bits
@@ -95,6 +95,23 @@ table-at mask value i h = table-down mask (scattered 32 value mask) i h
 -- ---- both chains, as they are sent
 
 module _ (lower upper mask : ℕ) where
+  -- two chains, one after the other
+  pub length-chains : length (rangeWords lower upper mask) ≡ 2
+  unfolding rangeWords
+  length-chains = refl
+
+  pub first-chain : getD (rangeWords lower upper mask) 0 [] ≡ lowerChain lower mask
+  unfolding rangeWords
+  first-chain = refl
+
+  pub second-chain : getD (rangeWords lower upper mask) 1 [] ≡ upperChain upper mask
+  unfolding rangeWords
+  second-chain = refl
+
+  pub sent-chains : sentWords lower upper mask ≡ lowerChain lower mask ++ upperChain upper mask
+  unfolding sentWords
+  sent-chains = refl
+
   pub take-sent : take 16 (sentWords lower upper mask) ≡ lowerChain lower mask
   unfolding sentWords
   take-sent = take-at (lowerChain lower mask) (upperChain upper mask) 16 (length-chain mask (lowerValue lower mask))

@@ -5,7 +5,7 @@ use mathlib.Core.List.{List, [], _∷_, _++_}
 use mathlib.Core.Path.{_≡_, refl, sym}
 use lib.Count.{ones, onesIn}
 use lib.Dec.{T, eqb, lit<}
-use lib.ListN.{length, replicate}
+use lib.ListN.{length, getD, replicate}
 use Rattle.buffer.specs.Bytes.{u32At, allWithin}
 use Rattle.buffer.specs.declared.Verdict.{Verdict}
 use Rattle.buffer.specs.declared.Verdict.the-variants.{Accepted, Refused}
@@ -15,7 +15,8 @@ use Rattle.range.specs.Rule.{rangeFault}
 use Rattle.sum.specs.Operation.{codesAccepted}
 use Rattle.sheet.specs.Sections.{fieldBytes, noFault, rangeFaultOf, edgeFaultOf, sumFaultOf, rowOf, mostOf, descriptionSize, descriptionFault, labelSize}
 use Rattle.sheet.specs.Reading.{recordFault, recordsVerdict, countVerdict, sectionVerdict, sectionsVerdict, verdict}
-use Rattle.sheet.specs.Parsed.{joined, render}
+use Rattle.sheet.specs.Parts.{recordsFrom}
+use Rattle.sheet.specs.Parsed.{joined, render, sectionsFrom, parse}
 use Rattle.sheet.proofs.Descriptions.{sheetWith, recordWith, onlySection, sheet-with}
 use Rattle.sheet.proofs.Written.{fields-length}
 
@@ -144,3 +145,12 @@ full-length = refl
 pub full-accepted : verdict full ≡ Accepted
 unfolding labelled blank term sum three sheet slots full joined render verdict sectionsVerdict sectionVerdict countVerdict recordsVerdict recordFault descriptionFault noFault rangeFaultOf rangeFault edgeFaultOf sumFaultOf codesAccepted overLines allWithin u32At fieldBytes rowOf mostOf descriptionSize ones onesIn
 full-accepted = refl
+
+-- it has the most records that each section may have
+pub full-counts :
+    (length (getD (parse full) 0 []) ≡ 10)
+    × (length (getD (parse full) 1 []) ≡ 2)
+    × (length (getD (parse full) 2 []) ≡ 2)
+    × (length (getD (parse full) 3 []) ≡ 48)
+unfolding labelled blank term sum three sheet slots full joined render fieldBytes descriptionSize rowOf recordsFrom sectionsFrom parse
+full-counts = (refl, refl, refl, refl)

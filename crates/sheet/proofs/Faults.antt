@@ -2,10 +2,10 @@
 use borrow.Author.Tests.{lt-ltb, le-ltb, le-leb, lt-leb, ltb-false, leb-false, not-false}
 use native.Mathlib.Omega.{arith}
 use Prim.Native.Nat.{ℕ, zero, suc, _≤_, _<_}
-use mathlib.Core.Bool.{Bool, true, false, not}
+use mathlib.Core.Bool.{Bool, true, false, cond, not}
 use mathlib.Core.List.{List}
 use mathlib.Core.Path.{_≡_, refl, _∙_}
-use lib.Dec.{ltb, leb}
+use lib.Dec.{eqb, ltb, leb}
 use lib.ListN.{length}
 use Rattle.buffer.specs.Bytes.{allWithin}
 use Rattle.edge.specs.Rule.{edgeAccepted}
@@ -56,6 +56,14 @@ of-other (suc (suc (suc (suc k)))) d a b c = refl
 
 -- ---- records: one law for each line of the refusal table
 
+-- the first of two faults that is one
+abbrev pub firstFault : ℕ → ℕ → ℕ
+firstFault first second = cond (eqb first 0) second first
+
+label-first : (w : Bool) (later : ℕ) → faultIf (not w) 5 later ≡ firstFault (faultIf (not w) 5 0) later
+label-first true later = refl
+label-first false later = refl
+
 module _ (k floor : ℕ) (r : List ℕ) where
   pub record-short : length r < recordSize k → recordFault k floor r ≡ 1
   unfolding recordFault
@@ -72,9 +80,13 @@ module _ (k floor : ℕ) (r : List ℕ) where
       record-order h = simp (le-ltb (length r) (recordSize k) whole, lt-leb (mostOf k) (slotOf r) fit, lt-ltb (slotOf r) floor h)
 
       module _ (rising : floor ≤ slotOf r) where
-        pub record-label : allWithin 0x20 0x7E (labelOf r) ≡ false → recordFault k floor r ≡ 5
+        -- the label's fault before the description's
+        pub record-rest : recordFault k floor r
+            ≡ firstFault (faultIf (not (allWithin 0x20 0x7E (labelOf r))) 5 0) (descriptionFault k (descriptionOf r))
         unfolding recordFault
-        record-label e = simp (le-ltb (length r) (recordSize k) whole, lt-leb (mostOf k) (slotOf r) fit, le-ltb (slotOf r) floor rising, e)
+        record-rest =
+            simp (le-ltb (length r) (recordSize k) whole, lt-leb (mostOf k) (slotOf r) fit, le-ltb (slotOf r) floor rising)
+            (label-first (allWithin 0x20 0x7E (labelOf r)) (descriptionFault k (descriptionOf r)))
 
         pub record-description : allWithin 0x20 0x7E (labelOf r) ≡ true → recordFault k floor r ≡ descriptionFault k (descriptionOf r)
         unfolding recordFault

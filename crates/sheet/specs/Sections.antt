@@ -3,7 +3,7 @@
 use Prim.Native.Nat.{ℕ, _+_, _*_}
 use mathlib.Core.Bool.{Bool, not, cond}
 use mathlib.Core.List.{List, [], _∷_, _++_}
-use lib.ListN.{getD, take, drop, replicate}
+use lib.ListN.{length, getD, take, drop, replicate}
 use Rattle.buffer.specs.Bytes.{u32At, u32Bytes}
 use Rattle.buffer.specs.Room.{fill}
 use Rattle.range.specs.Rule.{rangeFault}
@@ -50,6 +50,7 @@ pub record Row : Type 0 where
   pub description : ℕ
   pub fault : List ℕ → ℕ
 
+-- 01, 'The set-up sheet': the same, from left to right
 abbrev pub row : ℕ → ℕ → (List ℕ → ℕ) → Row
 row most description fault = record { most = most; description = description; fault = fault }
 
@@ -59,9 +60,9 @@ rows = row 10 (4 + 4) noFault ∷ row 2 (4 + 4 + 4) rangeFaultOf ∷ row 2 (4 + 
 
 -- 01, 'The set-up sheet': four sections
 abbrev pub sections : ℕ
-sections = 4
+sections = length rows
 
--- the row of section k, an empty one past the table
+-- 01, 'The set-up sheet': the line of section k, an empty one past the table
 unfoldable pub rowOf : ℕ → Row
 rowOf k = getD rows k (row 0 0 noFault)
 

@@ -33,7 +33,7 @@ pub fn field(description: &[u8], i: u8) -> u32
 pub fn sum_record(bytes: &[u8]) -> Sum
     ensures { λ r. ⌜ r ≡ sumOf (now (bytes .entry)) ⌝ }
 {
-    let mut name = [0u8; 8];
+    let mut name = [0u8; LABEL_SIZE];
     let mut ops = [0u8; 11];
     buffer::put_bytes(&mut name, label(bytes));
     buffer::put_bytes(&mut ops, buffer::prefix(description(bytes), 11));

@@ -1,7 +1,10 @@
 // The verdict on a sheet: read left to right, the first fault wins.
 ghost use mathlib.Core.Path.{_≡_};
+ghost use mathlib.Core.Bool.{not, cond};
+ghost use lib.Dec.{eqb};
 ghost use lib.ListN.{drop};
-ghost use Rattle.sheet.specs.Sections.{rangeFaultOf, edgeFaultOf, sumFaultOf, descriptionFault};
+ghost use Rattle.buffer.specs.Bytes.{allWithin};
+ghost use Rattle.sheet.specs.Sections.{faultIf, rangeFaultOf, edgeFaultOf, sumFaultOf, descriptionFault};
 ghost use Rattle.sheet.specs.Reading.{recordFault, recordsVerdict, sectionVerdict, verdict};
 use crate::SECTIONS;
 use crate::fields::description;
@@ -75,6 +78,24 @@ pub fn description_fault(section: usize, bytes: &[u8]) -> u8
     }
 }
 
+// The fault of a label, 0 if it has none.
+fn label_fault(bytes: &[u8]) -> u8
+    ensures { λ r. ⌜ r ≡ faultIf (not (allWithin 0x20 0x7E (now (bytes .entry)))) 5 0 ⌝ }
+{
+    if buffer::all_within(LABEL_FIRST, LABEL_LAST, bytes) {
+        NO_FAULT
+    } else {
+        BAD_LABEL
+    }
+}
+
+// The first of two faults that is one.
+fn first_fault(first: u8, second: u8) -> u8
+    ensures { λ r. ⌜ r ≡ cond (eqb first 0) second first ⌝ }
+{
+    if first == NO_FAULT { second } else { first }
+}
+
 // The first fault of a record, 0 if it has none. Its slot has to be at least `floor`.
 fn record_fault(section: usize, floor: usize, bytes: &[u8]) -> u8
     ensures { λ r. ⌜ r ≡ recordFault section floor (now (bytes .entry)) ⌝ }
@@ -89,11 +110,9 @@ fn record_fault(section: usize, floor: usize, bytes: &[u8]) -> u8
     if slot < floor {
         return SLOT_NOT_RISING;
     }
-    if buffer::all_within(LABEL_FIRST, LABEL_LAST, label(bytes)) {
-        description_fault(section, description(bytes))
-    } else {
-        BAD_LABEL
-    }
+    let of_label = label_fault(label(bytes));
+    let of_description = description_fault(section, description(bytes));
+    first_fault(of_label, of_description)
 }
 
 // The verdict on `count` records of a section, the first of which starts at `start`.

@@ -26,4 +26,4 @@ pub use parts::section_unchecked;
 pub const SECTIONS: usize = 4;
 
 // How many bytes a label has.
-pub const LABEL_SIZE: usize = 8;
+pub const LABEL_SIZE: usize = sum::LABEL_LENGTH;

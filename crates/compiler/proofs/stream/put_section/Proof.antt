@@ -15,10 +15,11 @@ use Rattle.sheet.specs.Parts.{sectionUnchecked, recordCount, recordAt}
 use Rattle.buffer.specs.Room.{write}
 use Rattle.buffer.proofs.Writing.{wrote, too-short, Pending, pending-start, pending-step, pending-end}
 use Rattle.sheet.specs.Parsed.{parse}
+use Rattle.sheet.proofs.Theorems.{record-is-faultless}
 use Rattle.compiler.specs.Items.{item}
 use Rattle.compiler.specs.Stream.{items}
 use Rattle.compiler.proofs.ItemLaws.{item-length, delivers}
-use Rattle.compiler.proofs.StreamLaws.{items-from, items-end, part-count, part-record, part-faultless}
+use Rattle.compiler.proofs.StreamLaws.{items-from, items-end, part-count, part-record}
 use Rattle.compiler.proofs.stream.put_section.Statement.{statement}
 use Rattle.compiler.proofs.stream.put_section.Tie as tie
 
@@ -32,12 +33,12 @@ module _ (s : List ℕ) (ok : verdict s ≡ Accepted) (k : ℕ) (h : k < section
   found i r ep er few = er ∙ ap (λ (x : List ℕ). recordAt k x i) ep ∙ part-record s ok k h i few
 
 abbrev Inv-loop : tie.InvT-loop
-Inv-loop out₀ sheet section needed part count at₀ i₀ out at i =
+Inv-loop out₀ sheet section size part count at₀ i₀ out at i =
     (i ≤ count)
     × Pending out₀ (write 0 (items section (getD (parse sheet) section [])) out₀) at (items section (drop i (getD (parse sheet) section []))) out
 
 abbrev μ-loop : tie.MeasureT-loop
-μ-loop out₀ sheet section needed part count at₀ i₀ out at i = count - i
+μ-loop out₀ sheet section size part count at₀ i₀ out at i = count - i
 
 section-size-requires : tie.Need-section-size-requires Inv-loop μ-loop
 section-size-requires c κs = search needs
@@ -75,7 +76,7 @@ put-item-requires c κs =
     let rs : List (List ℕ) = getD (parse s) k [] in
     let i = c .before .before .before .loop .i in
     let few : i < length rs = rw (← counted s (p .0) k (p .1) _ _ (c .before .before .before .before .before .section-unchecked .ensures) (c .before .before .before .before .record-count .ensures)) (c .before .before .loop-test .taken) in
-    rw (found s (p .0) k (p .1) _ i _ (c .before .before .before .before .before .section-unchecked .ensures) (c .record-at .ensures) few) (part-faultless s (p .0) k (p .1) i few)
+    rw (found s (p .0) k (p .1) _ i _ (c .before .before .before .before .before .section-unchecked .ensures) (c .record-at .ensures) few) (record-is-faultless s k (p .1) (p .0) i few)
 
 item-size-requires : tie.Need-item-size-requires Inv-loop μ-loop
 item-size-requires c κs = search needs

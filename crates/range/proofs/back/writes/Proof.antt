@@ -1,7 +1,7 @@
 -- `range::back::writes` meets its contract: the two chains are compared one after the other. Assumes nothing.
 use mathlib.Core.Path.{_≡_, refl, sym, ap, ap₂, _∙_}
 use mathlib.Core.Bool.{Bool, _&&_}
-use mathlib.Core.List.{List, [], _++_}
+use mathlib.Core.List.{List, []}
 use Prim.Native.Nat.{ℕ, _-_}
 use native.Mathlib.Omega.{arith}
 use borrow.Author.Needs.{needs}
@@ -10,37 +10,36 @@ use lib.Seq.{length-take-le, take-all}
 use Rattle.lines.specs.Same.{same}
 use Rattle.lines.proofs.Compare.{same-append}
 use Rattle.range.specs.Words.{lowerValue, upperValue, lowerChain, upperChain, rangeWords, sentWords}
-use Rattle.range.proofs.Tables.{length-chain}
+use Rattle.range.proofs.Tables.{length-chain, first-chain, second-chain, sent-chains}
 use Rattle.range.proofs.back.writes.Statement.{statement}
 use Rattle.range.proofs.back.writes.Tie as tie
 
--- both comparisons together are that of the 32 words
-compared : (words : List ℕ) (lower upper mask : ℕ) (chains : List (List ℕ)) (x y : Bool) → length words ≡ 32
-    → chains ≡ rangeWords lower upper mask → x ≡ same (take 16 words) (getD chains 0 [])
-    → y ≡ same (take (length words - 16) (drop 16 words)) (getD chains 1 []) → x && y ≡ same words (sentWords lower upper mask)
-unfolding rangeWords sentWords
-compared words lower upper mask chains x y len e ex ey =
-    let first : length (take 16 words) ≡ 16 = length-take-le 16 words (omega arith) in
-    let rest : take (length words - 16) (drop 16 words) ≡ drop 16 words
-    = take-all (length words - 16) (drop 16 words) (simp length-drop (omega arith)) in
-    ap₂ (λ (a b : Bool). a && b)
-    (ex ∙ ap (λ (cs : List (List ℕ)). same (take 16 words) (getD cs 0 [])) e)
-    (ey ∙ ap₂ (λ (w : List ℕ) (cs : List (List ℕ)). same w (getD cs 1 [])) rest e)
-    ∙ sym
-    (same-append (take 16 words) (lowerChain lower mask) (drop 16 words) (upperChain upper mask)
-    (first ∙ sym (length-chain mask (lowerValue lower mask))))
-    ∙ ap (λ (w : List ℕ). same w (lowerChain lower mask ++ upperChain upper mask)) (take-append-drop 16 words)
+-- what the call made are the two chains, of sixteen words each
+module _ (lower upper mask : ℕ) (chains : List (List ℕ)) (made : chains ≡ rangeWords lower upper mask) where
+  lower-made : getD chains 0 [] ≡ lowerChain lower mask
+  lower-made = ap (λ (cs : List (List ℕ)). getD cs 0 []) made ∙ first-chain lower upper mask
 
--- each chain has sixteen words
-lower-count : (lower upper mask : ℕ) (chains : List (List ℕ)) → chains ≡ rangeWords lower upper mask → 16 ≡ length (getD chains 0 [])
-unfolding rangeWords
-lower-count lower upper mask chains e =
-    sym (ap (λ (cs : List (List ℕ)). length (getD cs 0 [])) e ∙ length-chain mask (lowerValue lower mask))
+  upper-made : getD chains 1 [] ≡ upperChain upper mask
+  upper-made = ap (λ (cs : List (List ℕ)). getD cs 1 []) made ∙ second-chain lower upper mask
 
-upper-count : (lower upper mask : ℕ) (chains : List (List ℕ)) → chains ≡ rangeWords lower upper mask → 16 ≡ length (getD chains 1 [])
-unfolding rangeWords
-upper-count lower upper mask chains e =
-    sym (ap (λ (cs : List (List ℕ)). length (getD cs 1 [])) e ∙ length-chain mask (upperValue upper mask))
+  lower-count : 16 ≡ length (getD chains 0 [])
+  lower-count = sym (ap length lower-made ∙ length-chain mask (lowerValue lower mask))
+
+  upper-count : 16 ≡ length (getD chains 1 [])
+  upper-count = sym (ap length upper-made ∙ length-chain mask (upperValue upper mask))
+
+  -- both comparisons together are that of the 32 words
+  compared : (words : List ℕ) (x y : Bool) → length words ≡ 32 → x ≡ same (take 16 words) (getD chains 0 [])
+      → y ≡ same (take (length words - 16) (drop 16 words)) (getD chains 1 []) → x && y ≡ same words (sentWords lower upper mask)
+  compared words x y len ex ey =
+      let first : length (take 16 words) ≡ 16 = length-take-le 16 words (omega arith) in
+      let rest : take (length words - 16) (drop 16 words) ≡ drop 16 words
+      = take-all (length words - 16) (drop 16 words) (simp length-drop (omega arith)) in
+      ap₂ (λ (a b : Bool). a && b) (ex ∙ ap (same (take 16 words)) lower-made) (ey ∙ ap₂ same rest upper-made)
+      ∙ sym
+      (same-append (take 16 words) (lowerChain lower mask) (drop 16 words) (upperChain upper mask)
+      (first ∙ sym (length-chain mask (lowerValue lower mask))))
+      ∙ ap₂ same (take-append-drop 16 words) (sym (sent-chains lower upper mask))
 
 range-words-requires : tie.Need-range-words-requires
 range-words-requires c κs = search needs
@@ -81,7 +80,7 @@ returns c =
     let made = first .before .before .before .before .before in
     let start = made .before .before in
     sym (ap (λ (b : Bool). b && c .same-words2 .result) (c .before .before .before .if1 .taken))
-    ∙ compared (start .args .words .now) (start .args .lower) (start .args .upper) (start .args .mask) _ _ _ (start .pre) (made .range-words .ensures)
+    ∙ compared (start .args .lower) (start .args .upper) (start .args .mask) _ (made .range-words .ensures) (start .args .words .now) _ _ (start .pre)
     (first .same-words .ensures) (c .same-words2 .ensures)
 
 returns-2 : tie.Need-returns-2
@@ -91,7 +90,7 @@ returns-2 c =
     let start = made .before .before in
     let words = start .args .words .now in
     sym (ap (λ (b : Bool). b && same (take (length words - 16) (drop 16 words)) (getD (made .range-words .result) 1 [])) (c .if1 .left))
-    ∙ compared words (start .args .lower) (start .args .upper) (start .args .mask) _ _ _ (start .pre) (made .range-words .ensures)
+    ∙ compared (start .args .lower) (start .args .upper) (start .args .mask) _ (made .range-words .ensures) words _ _ (start .pre)
     (first .same-words .ensures) refl
 
 pub writes-spec : {M : Type 1} → statement M

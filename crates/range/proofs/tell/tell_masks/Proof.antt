@@ -1,6 +1,6 @@
 -- `range::tell::tell_masks` meets its contract. Assumes nothing.
 use mathlib.Core.Path.{_≡_, sym, ap, _∙_}
-use mathlib.Core.Bool.{Bool, cond}
+use mathlib.Core.Bool.{Bool, true, false, cond}
 use Prim.Native.Nat.{ℕ, _%_, _^_, _<_}
 use native.Mathlib.Omega.{arith}
 use borrow.Author.Needs.{needs}
@@ -8,7 +8,7 @@ use borrow.Author.Tests.{eq-eqb, ne-eqb}
 use lib.Dec.{eqb}
 use Rattle.lines.specs.Line.{line}
 use Rattle.range.specs.declared.Range.{Range}
-use Rattle.range.specs.Tell.{tellLine, tellMasks}
+use Rattle.range.specs.Tell.{firstDiffer, tellLine, tellMasks}
 use Rattle.range.proofs.Apart.{differ-line}
 use Rattle.range.proofs.tell.tell_masks.Statement.{statement}
 use Rattle.range.proofs.tell.tell_masks.Tie as tie
@@ -43,29 +43,27 @@ tell-line-requires-2 c κs =
     let f = found (c .before .before) in
     (f .0, other _ _ _ (f .1) (c .before .line-value .ensures) (c .if1 .left), c .before .before .before .pre .2)
 
-by-masks : (a b : Range) (i d : ℕ) → d ≡ line (a .mask) i → cond (eqb d 1) (tellLine a b i) (tellLine b a i) ≡ tellMasks a b i
+-- by the line at which they differ
+by-masks : (a b : Range) (i d : ℕ) (t : Bool) → i ≡ firstDiffer 32 (a .mask) (b .mask) → d ≡ line (a .mask) i → eqb d 1 ≡ t
+    → cond t (tellLine a b i) (tellLine b a i) ≡ tellMasks a b (firstDiffer 32 (a .mask) (b .mask))
 unfolding tellMasks
-by-masks a b i d e = ap (λ (x : ℕ). cond (eqb x 1) (tellLine a b i) (tellLine b a i)) e
+by-masks a b i d t ei ed et =
+    ap (λ (x : Bool). cond x (tellLine a b i) (tellLine b a i)) (sym et ∙ ap (λ (x : ℕ). eqb x 1) ed)
+    ∙ ap (λ (x : ℕ). cond (eqb (line (a .mask) x) 1) (tellLine a b x) (tellLine b a x)) ei
 
 returns : tie.Need-returns
 returns c =
     let lined = c .before .before in
     let a = lined .before .before .args in
     c .tell-line .ensures
-    ∙ ap (λ (t : Bool). cond t (tellLine (a .a) (a .b) (lined .before .first-differ .result)) (tellLine (a .b) (a .a) (lined .before .first-differ .result)))
-    (sym (eq-eqb _ _ (c .before .if1 .taken)))
-    ∙ by-masks (a .a) (a .b) (lined .before .first-differ .result) _ (lined .line-value .ensures)
-    ∙ ap (tellMasks (a .a) (a .b)) (lined .before .first-differ .ensures)
+    ∙ by-masks (a .a) (a .b) _ _ true (lined .before .first-differ .ensures) (lined .line-value .ensures) (eq-eqb _ _ (c .before .if1 .taken))
 
 returns-2 : tie.Need-returns-2
 returns-2 c =
     let lined = c .before .before in
     let a = lined .before .before .args in
     c .tell-line2 .ensures
-    ∙ ap (λ (t : Bool). cond t (tellLine (a .a) (a .b) (lined .before .first-differ .result)) (tellLine (a .b) (a .a) (lined .before .first-differ .result)))
-    (sym (ne-eqb _ _ (c .before .if1 .left)))
-    ∙ by-masks (a .a) (a .b) (lined .before .first-differ .result) _ (lined .line-value .ensures)
-    ∙ ap (tellMasks (a .a) (a .b)) (lined .before .first-differ .ensures)
+    ∙ by-masks (a .a) (a .b) _ _ false (lined .before .first-differ .ensures) (lined .line-value .ensures) (ne-eqb _ _ (c .before .if1 .left))
 
 pub tell-masks-spec : {M : Type 1} → statement M
 tell-masks-spec =

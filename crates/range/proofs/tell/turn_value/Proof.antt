@@ -21,49 +21,47 @@ sub-result : tie.Need-sub-result
 sub-result c = search needs
 
 -- by the answers of the tests
-by-lower : (lower upper j d : ℕ) (w : Bool) → lower % 2 ≡ 1 → d ≡ line lower j → w ≡ leb (2 ^ j) (upper - lower)
-    → cond (eqb d 0 && w) (lower - 1) lower ≡ turnValue lower upper j
+by-lower : (lower upper j d : ℕ) (w t : Bool) → lower % 2 ≡ 1 → d ≡ line lower j → w ≡ leb (2 ^ j) (upper - lower) → eqb d 0 && w ≡ t
+    → cond t (lower - 1) lower ≡ turnValue lower upper j
 unfolding turnValue
-by-lower lower upper j d w odd ed ew =
-    ap₂ (λ (x : ℕ) (y : Bool). cond (eqb x 0 && y) (lower - 1) lower) ed ew
-    ∙ ap (λ (t : Bool). cond t (turnLower lower upper j) (turnUpper lower upper j)) (sym (eq-eqb (lower % 2) 1 odd))
+by-lower lower upper j d w t odd ed ew et =
+    ap (λ (x : Bool). cond x (lower - 1) lower) (sym et ∙ ap₂ (λ (x : ℕ) (y : Bool). eqb x 0 && y) ed ew)
+    ∙ ap (λ (x : Bool). cond x (turnLower lower upper j) (turnUpper lower upper j)) (sym (eq-eqb (lower % 2) 1 odd))
 
-by-upper : (lower upper j d : ℕ) (w : Bool) → (lower % 2 ≡ 1 → ⊥) → d ≡ line upper j → w ≡ leb (2 ^ j) (upper - lower)
-    → cond (eqb d 1 && w) (upper + 1) upper ≡ turnValue lower upper j
+by-upper : (lower upper j d : ℕ) (w t : Bool) → (lower % 2 ≡ 1 → ⊥) → d ≡ line upper j → w ≡ leb (2 ^ j) (upper - lower) → eqb d 1 && w ≡ t
+    → cond t (upper + 1) upper ≡ turnValue lower upper j
 unfolding turnValue
-by-upper lower upper j d w even ed ew =
-    ap₂ (λ (x : ℕ) (y : Bool). cond (eqb x 1 && y) (upper + 1) upper) ed ew
-    ∙ ap (λ (t : Bool). cond t (turnLower lower upper j) (turnUpper lower upper j)) (sym (ne-eqb (lower % 2) 1 even))
+by-upper lower upper j d w t even ed ew et =
+    ap (λ (x : Bool). cond x (upper + 1) upper) (sym et ∙ ap₂ (λ (x : ℕ) (y : Bool). eqb x 1 && y) ed ew)
+    ∙ ap (λ (x : Bool). cond x (turnLower lower upper j) (turnUpper lower upper j)) (sym (ne-eqb (lower % 2) 1 even))
 
-chosen : (x y d k : ℕ) (w : Bool) → d ≡ k → w ≡ true → x ≡ cond (eqb d k && w) x y
-chosen x y d k w e t = rw (eq-eqb d k e, t)
+-- the two tests together: the second decides, or the first has failed
+second : (d k : ℕ) (w t : Bool) → d ≡ k → w ≡ t → eqb d k && w ≡ t
+second d k w t e ew = rw (eq-eqb d k e) ew
 
-not-wide : (x y d k : ℕ) (w : Bool) → d ≡ k → w ≡ false → y ≡ cond (eqb d k && w) x y
-not-wide x y d k w e t = rw (eq-eqb d k e, t)
-
-not-chosen : (x y d k : ℕ) (w : Bool) → (d ≡ k → ⊥) → y ≡ cond (eqb d k && w) x y
-not-chosen x y d k w e = rw (ne-eqb d k e)
+failed : (d k : ℕ) (w : Bool) → (d ≡ k → ⊥) → eqb d k && w ≡ false
+failed d k w n = rw (ne-eqb d k n)
 
 returns : tie.Need-returns
 returns c =
     let lined = c .before .before .before in
     let a = lined .before .before .args in
-    chosen (a .lower - 1) (a .lower) _ 0 _ (c .before .before .if2 .taken) (c .if3 .taken)
-    ∙ by-lower (a .lower) (a .upper) (a .j) _ _ (lined .before .if1 .taken) (lined .line-value .ensures) (c .before .spans .ensures)
+    by-lower (a .lower) (a .upper) (a .j) _ _ true (lined .before .if1 .taken) (lined .line-value .ensures) (c .before .spans .ensures)
+    (second _ 0 _ true (c .before .before .if2 .taken) (c .if3 .taken))
 
 returns-2 : tie.Need-returns-2
 returns-2 c =
     let lined = c .before .before .before in
     let a = lined .before .before .args in
-    not-wide (a .lower - 1) (a .lower) _ 0 _ (c .before .before .if2 .taken) (c .if3 .left)
-    ∙ by-lower (a .lower) (a .upper) (a .j) _ _ (lined .before .if1 .taken) (lined .line-value .ensures) (c .before .spans .ensures)
+    by-lower (a .lower) (a .upper) (a .j) _ _ false (lined .before .if1 .taken) (lined .line-value .ensures) (c .before .spans .ensures)
+    (second _ 0 _ false (c .before .before .if2 .taken) (c .if3 .left))
 
 returns-3 : tie.Need-returns-3
 returns-3 c =
     let lined = c .before in
     let a = lined .before .before .args in
-    not-chosen (a .lower - 1) (a .lower) _ 0 (leb (2 ^ a .j) (a .upper - a .lower)) (c .if2 .left)
-    ∙ by-lower (a .lower) (a .upper) (a .j) _ _ (lined .before .if1 .taken) (lined .line-value .ensures) refl
+    by-lower (a .lower) (a .upper) (a .j) _ _ false (lined .before .if1 .taken) (lined .line-value .ensures) refl
+    (failed _ 0 (leb (2 ^ a .j) (a .upper - a .lower)) (c .if2 .left))
 
 line-value-requires-2 : tie.Need-line-value-requires-2
 line-value-requires-2 c κs = search needs
@@ -83,22 +81,22 @@ returns-4 : tie.Need-returns-4
 returns-4 c =
     let lined = c .before .before .before in
     let a = lined .before .before .args in
-    chosen (a .upper + 1) (a .upper) _ 1 _ (c .before .before .if4 .taken) (c .if5 .taken)
-    ∙ by-upper (a .lower) (a .upper) (a .j) _ _ (lined .before .if1 .left) (lined .line-value2 .ensures) (c .before .spans2 .ensures)
+    by-upper (a .lower) (a .upper) (a .j) _ _ true (lined .before .if1 .left) (lined .line-value2 .ensures) (c .before .spans2 .ensures)
+    (second _ 1 _ true (c .before .before .if4 .taken) (c .if5 .taken))
 
 returns-5 : tie.Need-returns-5
 returns-5 c =
     let lined = c .before .before .before in
     let a = lined .before .before .args in
-    not-wide (a .upper + 1) (a .upper) _ 1 _ (c .before .before .if4 .taken) (c .if5 .left)
-    ∙ by-upper (a .lower) (a .upper) (a .j) _ _ (lined .before .if1 .left) (lined .line-value2 .ensures) (c .before .spans2 .ensures)
+    by-upper (a .lower) (a .upper) (a .j) _ _ false (lined .before .if1 .left) (lined .line-value2 .ensures) (c .before .spans2 .ensures)
+    (second _ 1 _ false (c .before .before .if4 .taken) (c .if5 .left))
 
 returns-6 : tie.Need-returns-6
 returns-6 c =
     let lined = c .before in
     let a = lined .before .before .args in
-    not-chosen (a .upper + 1) (a .upper) _ 1 (leb (2 ^ a .j) (a .upper - a .lower)) (c .if4 .left)
-    ∙ by-upper (a .lower) (a .upper) (a .j) _ _ (lined .before .if1 .left) (lined .line-value2 .ensures) refl
+    by-upper (a .lower) (a .upper) (a .j) _ _ false (lined .before .if1 .left) (lined .line-value2 .ensures) refl
+    (failed _ 1 (leb (2 ^ a .j) (a .upper - a .lower)) (c .if4 .left))
 
 pub turn-value-spec : {M : Type 1} → statement M
 turn-value-spec =

@@ -3,7 +3,7 @@ use borrow.Author.Needs.{needs}
 use native.Mathlib.Omega.{arith}
 use mathlib.Core.Path.{sym}
 use denote.Ref.{now}
-use Rattle.sheet.proofs.Faults.{record-short, record-slot, record-order, record-label, record-description}
+use Rattle.sheet.proofs.Faults.{record-short, record-slot, record-order, record-rest}
 use Rattle.sheet.proofs.judge.record_fault.Statement.{statement}
 use Rattle.sheet.proofs.judge.record_fault.Tie as tie
 
@@ -37,8 +37,8 @@ returns-3 c =
 label-requires : tie.Need-label-requires
 label-requires c κs = search needs
 
-all-within-requires : tie.Need-all-within-requires
-all-within-requires c κs = search needs
+label-fault-requires : tie.Need-label-fault-requires
+label-fault-requires c κs = search needs
 
 description-requires : tie.Need-description-requires
 description-requires c κs = search needs
@@ -46,15 +46,13 @@ description-requires c κs = search needs
 description-fault-requires : tie.Need-description-fault-requires
 description-fault-requires c κs = search needs
 
+first-fault-requires : tie.Need-first-fault-requires
+first-fault-requires c κs = search needs
+
 returns-4 : tie.Need-returns-4
 returns-4 c =
     let a = c .before .before .before .before .before .before .before .before .before .before .before .before .args in
-    cc (record-description (a .section) (a .floor) (now (a .bytes)) (omega arith) (omega arith) (omega arith) (cc))
-
-returns-5 : tie.Need-returns-5
-returns-5 c =
-    let a = c .before .before .before .before .before .before .before .before .before .before .args in
-    sym (record-label (a .section) (a .floor) (now (a .bytes)) (omega arith) (omega arith) (omega arith) (cc))
+    cc (record-rest (a .section) (a .floor) (now (a .bytes)) (omega arith) (omega arith) (omega arith))
 
 pub record-fault-spec : {M : Type 1} → statement M
 record-fault-spec =
@@ -68,8 +66,8 @@ record-fault-spec =
     returns-2
     returns-3
     label-requires
-    all-within-requires
+    label-fault-requires
     description-requires
     description-fault-requires
-    returns-4
-    returns-5)
+    first-fault-requires
+    returns-4)

@@ -1,0 +1,105 @@
+-- 01's notice, byte for byte, and the slips that a notice must not make, each computed. Assumes nothing.
+use Prim.Native.Nat.{ℕ}
+use mathlib.Core.Bool.{Bool, true, _&&_}
+use mathlib.Core.List.{List, [], _∷_, _++_}
+use lib.Count.{ones, trailingZeros}
+use lib.Dec.{T}
+use lib.ListN.{length, replicate}
+use Rattle.buffer.specs.Bytes.{u32At}
+use Rattle.lines.specs.Line.{flipLine}
+use Rattle.lines.specs.Gather.{gathered, scattered, dropLowest}
+use Rattle.lines.specs.Same.{same}
+use Rattle.sheet.specs.Sections.{fieldBytes, rowOf, mostOf, descriptionSize}
+use Rattle.sheet.specs.Parts.{recordsFrom, find}
+use Rattle.sheet.specs.Parsed.{joined, render, sectionsFrom, parse}
+use Rattle.term.specs.Telling.{leastTelling}
+use Rattle.range.specs.Rule.{rangeHit}
+use Rattle.range.specs.Reduce.{reduceFrom, reduceOf}
+use Rattle.range.specs.Tell.{turnValue, turnSample, tellLine, firstDiffer, tellMasks, tellBounds, tellReduced, tellingOf}
+use Rattle.notice.specs.Text as text
+use Rattle.notice.specs.Findings.{termFinding, rangeFinding, findingOf, sharedLines, slotLines}
+use Rattle.notice.specs.Notice.{linesFrom, sectionsLines, noticeLines, noticeText}
+
+-- a sheet of these terms and ranges, and a record of a slot, a label and numbers
+sheetOf : (terms ranges : List (List ℕ)) → List ℕ
+sheetOf terms ranges = render (terms ∷ ranges ∷ [] ∷ [] ∷ [])
+
+recordOf : (slot : ℕ) (label numbers : List ℕ) → List ℕ
+recordOf slot label numbers = slot ∷ (label ++ fieldBytes numbers)
+
+-- DOORLOCK; DOORLK and two spaces; two more labels
+doorlock : List ℕ
+doorlock = 68 ∷ 79 ∷ 79 ∷ 82 ∷ 76 ∷ 79 ∷ 67 ∷ 75 ∷ []
+
+doorlk : List ℕ
+doorlk = 68 ∷ 79 ∷ 79 ∷ 82 ∷ 76 ∷ 75 ∷ 32 ∷ 32 ∷ []
+
+left : List ℕ
+left = replicate 8 76
+
+right : List ℕ
+right = replicate 8 82
+
+-- an old sheet, a new sheet, and the text of their notice
+pub record Pair : Type 0 where
+  pub old : List ℕ
+  pub new : List ℕ
+  pub text : List ℕ
+
+pair : (old new text : List ℕ) → Pair
+pair old new text = record { old = old; new = new; text = text }
+
+line : (kind slot word : List ℕ) → List ℕ
+line kind slot word = kind ++ 32 ∷ slot ++ 32 ∷ word ++ 10 ∷ []
+
+TERM : List ℕ
+TERM = 84 ∷ 69 ∷ 82 ∷ 77 ∷ []
+
+RANG : List ℕ
+RANG = 82 ∷ 65 ∷ 78 ∷ 71 ∷ []
+
+NAME : List ℕ
+NAME = 78 ∷ 65 ∷ 77 ∷ 69 ∷ []
+
+NEW : List ℕ
+NEW = 78 ∷ 69 ∷ 87 ∷ []
+
+GONE : List ℕ
+GONE = 71 ∷ 79 ∷ 78 ∷ 69 ∷ []
+
+WORD : List ℕ
+WORD = 87 ∷ 79 ∷ 82 ∷ 68 ∷ []
+
+-- ALTR 00000004
+ALTR4 : List ℕ
+ALTR4 = 65 ∷ 76 ∷ 84 ∷ 82 ∷ 32 ∷ 48 ∷ 48 ∷ 48 ∷ 48 ∷ 48 ∷ 48 ∷ 48 ∷ 52 ∷ []
+
+pub pairs : List Pair
+pairs =
+    -- 01, given whole: 60 bytes
+    pair
+    (sheetOf (recordOf 0 doorlock (5 ∷ 15 ∷ []) ∷ recordOf 1 left (4 ∷ 15 ∷ []) ∷ []) (recordOf 0 left (1 ∷ 1 ∷ 1 ∷ []) ∷ []))
+    (sheetOf (recordOf 0 doorlk (5 ∷ 15 ∷ []) ∷ recordOf 1 left (6 ∷ 15 ∷ []) ∷ recordOf 2 right (0 ∷ 1 ∷ []) ∷ []) [])
+    (line TERM (48 ∷ 48 ∷ []) NAME ++ line TERM (48 ∷ 49 ∷ []) ALTR4 ++ line TERM (48 ∷ 50 ∷ []) NEW ++ line RANG (48 ∷ 48 ∷ []) GONE)
+    -- a pattern moved to another slot: one GONE and one NEW, though it is the first record in both sheets
+    ∷ pair (sheetOf (recordOf 3 left (5 ∷ 15 ∷ []) ∷ []) []) (sheetOf (recordOf 4 left (5 ∷ 15 ∷ []) ∷ []) [])
+    (line TERM (48 ∷ 51 ∷ []) GONE ++ line TERM (48 ∷ 52 ∷ []) NEW)
+    -- two labels swapped
+    ∷ pair
+    (sheetOf (recordOf 0 left (5 ∷ 15 ∷ []) ∷ recordOf 1 right (6 ∷ 15 ∷ []) ∷ []) [])
+    (sheetOf (recordOf 0 right (5 ∷ 15 ∷ []) ∷ recordOf 1 left (6 ∷ 15 ∷ []) ∷ []) [])
+    (line TERM (48 ∷ 48 ∷ []) NAME ++ line TERM (48 ∷ 49 ∷ []) NAME)
+    -- only ignored target bits differ
+    ∷ pair (sheetOf (recordOf 0 left (5 ∷ 15 ∷ []) ∷ []) []) (sheetOf (recordOf 0 left (0xF5 ∷ 15 ∷ []) ∷ []) []) (line TERM (48 ∷ 48 ∷ []) WORD)
+    -- 2..3 under mask 3 against 1..1 under mask 2
+    ∷ pair (sheetOf [] (recordOf 0 left (2 ∷ 3 ∷ 3 ∷ []) ∷ [])) (sheetOf [] (recordOf 0 left (1 ∷ 1 ∷ 2 ∷ []) ∷ []))
+    (line RANG (48 ∷ 48 ∷ []) WORD)
+    ∷ []
+
+pub allGive : List Pair → Bool
+allGive [] = true
+allGive (p ∷ ps) = same (noticeText (p .old) (p .new)) (p .text) && allGive ps
+
+pub notices-hold : T (allGive pairs)
+unfolding allGive pairs pair sheetOf recordOf doorlock doorlk left right line TERM RANG NAME NEW GONE WORD ALTR4 fieldBytes render joined parse sectionsFrom recordsFrom rowOf descriptionSize mostOf find same u32At noticeText noticeLines sectionsLines linesFrom slotLines sharedLines findingOf termFinding rangeFinding text.render text.renderAll leastTelling trailingZeros tellingOf tellReduced tellBounds tellMasks firstDiffer tellLine turnSample turnValue reduceOf reduceFrom gathered scattered dropLowest flipLine rangeHit
+notices-hold = tt

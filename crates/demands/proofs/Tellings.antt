@@ -1,0 +1,129 @@
+-- What the detectors' tellings say of accepted descriptions, one law over the three kinds. Assumes nothing.
+use Prim.Native.Nat.{ℕ, zero, suc, _^_, _<_}
+use mathlib.Core.Path.{_≡_, refl, sym, ap, _∙_}
+use mathlib.Core.Bool.{Bool, true, false, not}
+use mathlib.Core.List.{List, []}
+use mathlib.Core.Logic.{_⊎_, inl, inr}
+use native.Mathlib.Omega.{arith}
+use Rattle.lut.specs.Telling.{HitAlike, HitAlike₂, SaysLeast, SaysOne, SaysTwo}
+use Rattle.lut.specs.declared.Telling.{Telling}
+use Rattle.lut.specs.declared.Telling.the-variants.{Alike, One, Two}
+use Rattle.buffer.specs.Bytes.{Bytes}
+use Rattle.buffer.proofs.Numbers.{u32-small}
+use Rattle.sheet.specs.Sections.{fieldOf, faultIf, rowOf, descriptionFault, rangeFaultOf, edgeFaultOf}
+use Rattle.term.specs.Rule.{termHit}
+use Rattle.term.specs.Telling.{leastTelling}
+use Rattle.term.proofs.Theorems as term
+use Rattle.range.specs.Rule.{hitOf, rangeFault, RangeAccepted}
+use Rattle.range.specs.Tell.{tellingOf}
+use Rattle.range.proofs.Faults.{fault-0}
+use Rattle.range.proofs.Theorems as range
+use Rattle.edge.specs.Rule.{edgeAccepted, Accepted}
+use Rattle.edge.specs.Telling.{hits, tellingEdge}
+use Rattle.edge.proofs.Theorems as edge
+use Rattle.notice.specs.Findings.{rangeOf, edgeOf, told, termFinding, rangeFinding, edgeFinding, findingOf}
+use Rattle.demands.specs.Apart.{InputTells}
+
+-- the telling of two descriptions of section k
+abbrev pub tellingAt : (k : ℕ) (old new : List ℕ) → Telling
+tellingAt zero d e = leastTelling (fieldOf d 0) (fieldOf d 1) (fieldOf e 0) (fieldOf e 1)
+tellingAt (suc zero) d e = tellingOf (rangeOf d) (rangeOf e)
+tellingAt (suc (suc zero)) d e = tellingEdge (edgeOf d) (edgeOf e)
+tellingAt (suc (suc (suc k))) d e = Alike
+
+pub finding-told : (k : ℕ) (d e : List ℕ) → k < 3 → findingOf k d e ≡ told (tellingAt k d e)
+unfolding findingOf termFinding rangeFinding edgeFinding
+finding-told zero d e h = refl
+finding-told (suc zero) d e h = refl
+finding-told (suc (suc zero)) d e h = refl
+finding-told (suc (suc (suc k))) d e h = absurd (omega arith)
+
+-- ---- acceptance
+
+field-small : (d : List ℕ) (i : ℕ) → Bytes d → fieldOf d i < 2 ^ 32
+field-small d i b = u32-small d _ b
+
+clear : (b : Bool) → faultIf (not b) 9 0 ≡ 0 → b ≡ true
+clear true e = refl
+clear false e = absurd (omega arith)
+
+range-accepted : (d : List ℕ) → Bytes d → descriptionFault 1 d ≡ 0 → RangeAccepted (fieldOf d 0) (fieldOf d 1) (fieldOf d 2)
+unfolding descriptionFault rowOf rangeFaultOf
+range-accepted d b e = fault-0 (fieldOf d 0) (fieldOf d 1) (fieldOf d 2) (field-small d 2 b) .0 e
+
+edge-accepted : (d : List ℕ) → Bytes d → descriptionFault 2 d ≡ 0 → Accepted (fieldOf d 0) (fieldOf d 1) (fieldOf d 2)
+unfolding descriptionFault rowOf edgeFaultOf
+edge-accepted d b e =
+    record {
+      ok = clear (edgeAccepted (fieldOf d 0) (fieldOf d 1) (fieldOf d 2)) e;
+      rise-fits = field-small d 0 b;
+      fall-fits = field-small d 1 b;
+      neither-fits = field-small d 2 b;
+    }
+
+-- ---- what a telling decides: no input tells the two apart, or this one does
+
+unfoldable pub Decides : (k : ℕ) (old new : List ℕ) → Telling → Type 0
+Decides k d e t = ((t ≡ Alike) × ((i : Telling) → InputTells k d e i → ⊥)) ⊎ InputTells k d e t
+
+term-decides : (d e : List ℕ) (t : Telling) → SaysLeast (termHit (fieldOf d 0) (fieldOf d 1)) (termHit (fieldOf e 0) (fieldOf e 1)) t → Decides 0 d e t
+unfolding Decides
+term-decides d e Alike h = inl (refl, none)
+  where
+    none : (i : Telling) → InputTells 0 d e i → ⊥
+    none Alike w = w
+    none (One s) w = w .tells (h s (w .fits))
+    none (Two x y) w = w
+term-decides d e (One s) h = inr (h .apart)
+term-decides d e (Two x y) h = absurd h
+
+range-decides : (d e : List ℕ) (t : Telling) → SaysOne (hitOf (rangeOf d)) (hitOf (rangeOf e)) t → Decides 1 d e t
+unfolding Decides
+range-decides d e Alike h = inl (refl, none)
+  where
+    none : (i : Telling) → InputTells 1 d e i → ⊥
+    none Alike w = w
+    none (One s) w = w .tells (h s (w .fits))
+    none (Two x y) w = w
+range-decides d e (One s) h = inr h
+range-decides d e (Two x y) h = absurd h
+
+edge-decides : (d e : List ℕ) (t : Telling) → SaysTwo (hits (edgeOf d)) (hits (edgeOf e)) t → Decides 2 d e t
+unfolding Decides
+edge-decides d e Alike h = inl (refl, none)
+  where
+    none : (i : Telling) → InputTells 2 d e i → ⊥
+    none Alike w = w
+    none (One s) w = w
+    none (Two x y) w = w .tells (h x y (w .fits-earlier) (w .fits-later))
+edge-decides d e (One s) h = absurd h
+edge-decides d e (Two x y) h = inr h
+
+-- of patterns, the least
+pub least : (d e : List ℕ) → Bytes d → Bytes e
+    → SaysLeast (termHit (fieldOf d 0) (fieldOf d 1)) (termHit (fieldOf e 0) (fieldOf e 1)) (tellingAt 0 d e)
+least d e bd be =
+    term.telling-says (fieldOf d 0) (fieldOf d 1) (fieldOf e 0) (fieldOf e 1) (field-small d 0 bd) (field-small d 1 bd) (field-small e 0 be)
+    (field-small e 1 be)
+
+pub decides : (k : ℕ) (d e : List ℕ) → k < 3 → Bytes d → Bytes e → descriptionFault k d ≡ 0 → descriptionFault k e ≡ 0
+    → Decides k d e (tellingAt k d e)
+decides zero d e h bd be fd fe = term-decides d e _ (least d e bd be)
+decides (suc zero) d e h bd be fd fe =
+    range-decides d e _ (range.range-telling (rangeOf d) (rangeOf e) (range-accepted d bd fd) (range-accepted e be fe))
+decides (suc (suc zero)) d e h bd be fd fe =
+    edge-decides d e _ (edge.telling-tells (edgeOf d) (edgeOf e) (edge-accepted d bd fd) (edge-accepted e be fe))
+decides (suc (suc (suc k))) d e h bd be fd fe = absurd (omega arith)
+
+-- no input tells a description from itself
+pub not-itself : (k : ℕ) (d : List ℕ) (i : Telling) → InputTells k d d i → ⊥
+not-itself zero d Alike w = w
+not-itself zero d (One s) w = w .tells refl
+not-itself zero d (Two x y) w = w
+not-itself (suc zero) d Alike w = w
+not-itself (suc zero) d (One s) w = w .tells refl
+not-itself (suc zero) d (Two x y) w = w
+not-itself (suc (suc zero)) d Alike w = w
+not-itself (suc (suc zero)) d (One s) w = w
+not-itself (suc (suc zero)) d (Two x y) w = w .tells refl
+not-itself (suc (suc (suc k))) d i w = w

@@ -1,0 +1,4 @@
+pub mod Text
+pub mod Findings
+pub mod Notice
+pub mod Shared

@@ -1,0 +1,118 @@
+// The lines of slots and sections, written into room that suffices, from an index on.
+ghost use mathlib.Core.Path.{_≡_};
+ghost use Prim.Native.Nat.{_+_, _*_, _≤_, _<_};
+ghost use lib.ListN.{length};
+ghost use Rattle.buffer.specs.Room.{Wrote};
+ghost use Rattle.buffer.specs.declared.Verdict.the-variants.{Accepted};
+ghost use Rattle.sheet.specs.Sections.{mostOf, labelSize};
+ghost use Rattle.sheet.specs.Reading.{verdict};
+ghost use Rattle.sheet.specs.Parts.{recordsIn};
+ghost use Rattle.sheet.specs.Parsed.{Ordered};
+ghost use Rattle.notice.specs.Text.{renderAll};
+ghost use Rattle.notice.specs.Findings.{unlessSame, sharedLines, slotLines};
+ghost use Rattle.notice.specs.Notice.{linesFrom, noticeText};
+use crate::Finding;
+use crate::Line;
+use crate::compare::finding_on;
+use crate::text::put_line;
+
+// A line, unless two parts have the same bytes.
+fn put_unless_same(out: &mut [u8], at: usize, old: &[u8], new: &[u8], line: Line) -> usize
+    requires { ⌜ at + 31 ≤ length (now out) ⌝ }
+    ensures { λ r. ⌜ Wrote at (renderAll (unlessSame (now (old .entry)) (now (new .entry)) line)) (now (out .entry)) (now (out .exit)) r ⌝ }
+{
+    if buffer::same_bytes(old, new) {
+        at
+    } else {
+        put_line(out, at, line)
+    }
+}
+
+// The lines of a slot that both sheets have: of its label, then of its description.
+fn put_shared(out: &mut [u8], at: usize, section: usize, slot: u8, old: &[u8], new: &[u8]) -> usize
+    requires { ⌜ at + 44 ≤ length (now out) ⌝ }
+    ensures { λ r. ⌜ Wrote at (renderAll (sharedLines section slot (now (old .entry)) (now (new .entry)))) (now (out .entry)) (now (out .exit)) r ⌝ }
+{
+    let name = Line {
+        section,
+        slot,
+        finding: Finding::Name,
+    };
+    let next = put_unless_same(out, at, sheet::label(old), sheet::label(new), name);
+    let old_description = sheet::description(old);
+    let new_description = sheet::description(new);
+    let change = Line {
+        section,
+        slot,
+        finding: finding_on(section, old_description, new_description),
+    };
+    put_unless_same(out, next, old_description, new_description, change)
+}
+
+// The lines of a slot. An empty part stands for a sheet that has no such slot.
+fn put_slot(out: &mut [u8], at: usize, section: usize, slot: u8, old: &[u8], new: &[u8]) -> usize
+    requires { ⌜ at + 44 ≤ length (now out) ⌝ }
+    ensures { λ r. ⌜ Wrote at (renderAll (slotLines section slot (now (old .entry)) (now (new .entry)))) (now (out .entry)) (now (out .exit)) r ⌝ }
+{
+    if old.len() == 0 {
+        if new.len() == 0 {
+            return at;
+        }
+        let line = Line {
+            section,
+            slot,
+            finding: Finding::New,
+        };
+        return put_line(out, at, line);
+    }
+    if new.len() == 0 {
+        let line = Line {
+            section,
+            slot,
+            finding: Finding::Gone,
+        };
+        return put_line(out, at, line);
+    }
+    put_shared(out, at, section, slot, old, new)
+}
+
+// The lines of every slot of a section, by one walk over both sheets' records.
+fn put_section(out: &mut [u8], from: usize, section: usize, old: &[u8], new: &[u8]) -> usize
+    requires { ⌜ from + 44 * mostOf section ≤ length (now out) ⌝ }
+    requires { ⌜ Ordered section 0 (recordsIn section (now old)) ⌝ }
+    requires { ⌜ Ordered section 0 (recordsIn section (now new)) ⌝ }
+    ensures { λ r. ⌜ Wrote from (renderAll (linesFrom section (mostOf section) 0 (recordsIn section (now (old .entry))) (recordsIn section (now (new .entry))))) (now (out .entry)) (now (out .exit)) r ⌝ }
+{
+    let most = sheet::most(section);
+    let mut at = from;
+    let mut i: usize = 0;
+    let mut j: usize = 0;
+    let mut slot: usize = 0;
+    while slot < most {
+        let a = sheet::record_with(old, section, i, slot as u8);
+        let b = sheet::record_with(new, section, j, slot as u8);
+        at = put_slot(out, at, section, slot as u8, a, b);
+        i += a.len();
+        j += b.len();
+        slot += 1;
+    }
+    at
+}
+
+// The lines of every section, of two sheets that are accepted. A slot's lines have at most 44 bytes, and a sheet has 62 slots.
+pub(crate) fn put_sections(out: &mut [u8], old: &[u8], new: &[u8]) -> usize
+    requires { ⌜ 2728 ≤ length (now out) ⌝ }
+    requires { ⌜ verdict (now old) ≡ Accepted ⌝ }
+    requires { ⌜ verdict (now new) ≡ Accepted ⌝ }
+    ensures { λ r. ⌜ Wrote 0 (noticeText (now (old .entry)) (now (new .entry))) (now (out .entry)) (now (out .exit)) r ⌝ }
+{
+    let mut at: usize = 0;
+    let mut section: usize = 0;
+    while section < sheet::SECTIONS {
+        let a = sheet::section_unchecked(old, section);
+        let b = sheet::section_unchecked(new, section);
+        at = put_section(out, at, section, a, b);
+        section += 1;
+    }
+    at
+}

@@ -1,0 +1,24 @@
+-- `sheet::label_fault` meets its contract. Assumes nothing.
+use borrow.Author.Needs.{needs}
+use mathlib.Core.Path.{_≡_}
+use mathlib.Core.Bool.{true, false}
+use denote.Ref.{now}
+use Rattle.buffer.specs.Bytes.{allWithin}
+use Rattle.sheet.proofs.judge.label_fault.Statement.{statement}
+use Rattle.sheet.proofs.judge.label_fault.Tie as tie
+
+all-within-requires : tie.Need-all-within-requires
+all-within-requires c κs = search needs
+
+returns : tie.Need-returns
+returns c =
+    let e : allWithin 0x20 0x7E (now (c .before .before .before .args .bytes)) ≡ true = cc in
+    rw e
+
+returns-2 : tie.Need-returns-2
+returns-2 c =
+    let e : allWithin 0x20 0x7E (now (c .before .before .before .args .bytes)) ≡ false = cc in
+    rw e
+
+pub label-fault-spec : {M : Type 1} → statement M
+label-fault-spec = tie.close (tie.spec all-within-requires returns returns-2)

@@ -1,0 +1,120 @@
+//! Times the proved library and the plain implementation on the same inputs: `cargo bench --offline`. For each call it
+//! prints the nanoseconds of both and their ratio. Output buffers are made once and are not cleared between calls, on
+//! either side (plain's read and notice write to a page of their own first, and copy). Both sides run in turn; the best
+//! of many rounds counts.
+use plain::make::{self, Random, Setup};
+use std::hint::black_box;
+use std::time::Instant;
+
+const ROUNDS: usize = 60;
+
+/// Nanoseconds of one call, the best of all rounds, for both sides.
+fn compare<I, A, B>(name: &str, inputs: &[I], mut proved: impl FnMut(&I) -> A, mut plain: impl FnMut(&I) -> B) {
+    let mut best = [f64::MAX; 2];
+    for _ in 0..ROUNDS {
+        let start = Instant::now();
+        inputs.iter().for_each(|input| _ = black_box(proved(black_box(input))));
+        best[0] = best[0].min(start.elapsed().as_secs_f64());
+        let start = Instant::now();
+        inputs.iter().for_each(|input| _ = black_box(plain(black_box(input))));
+        best[1] = best[1].min(start.elapsed().as_secs_f64());
+    }
+    let [proved, plain] = best.map(|seconds| seconds / inputs.len() as f64 * 1e9);
+    println!("{name:<10} {proved:>12.1} {plain:>12.1} {:>8.2}", proved / plain);
+}
+
+fn main() {
+    if cfg!(debug_assertions) {
+        eprintln!("ratio: run it with `cargo bench`, which builds for release");
+        std::process::exit(2);
+    }
+    let mut random = Random(1);
+    // sheets from half full to full; the second of each pair is near the first
+    let pairs: Vec<(Vec<u8>, Vec<u8>)> = (0..1000)
+        .map(|n| {
+            let setup = Setup::random(&mut random, 4 + n % 5);
+            (setup.sheet(), setup.near(&mut random).sheet())
+        })
+        .collect();
+    let sheets: Vec<&Vec<u8>> = pairs.iter().map(|pair| &pair.0).collect();
+    let streams: Vec<Vec<u8>> = sheets.iter().map(|sheet| make::stream(sheet)).collect();
+    let bytes = |all: usize| all as f64 / sheets.len() as f64;
+    println!(
+        "1000 accepted sheets of {:.0} bytes, {:.0} bytes of commands on average; release build; buffers not cleared on either side",
+        bytes(sheets.iter().map(|sheet| sheet.len()).sum()),
+        bytes(streams.iter().map(Vec::len).sum()),
+    );
+    println!("{:<10} {:>12} {:>12} {:>8}", "call", "proved (ns)", "plain (ns)", "ratio");
+
+    let (mut a, mut b) = (vec![0; 2360], vec![0; 2360]);
+    compare("check", &sheets, |sheet| voltamar::check(sheet), |sheet| plain::check(sheet));
+    compare(
+        "compile",
+        &sheets,
+        |sheet| voltamar::compile(sheet, black_box(&mut a)),
+        |sheet| plain::compile(sheet, black_box(&mut b)),
+    );
+    compare(
+        "read",
+        &streams,
+        |stream| voltamar::read(stream, black_box(&mut a)),
+        |stream| plain::read(stream, black_box(&mut b)),
+    );
+    compare(
+        "notice",
+        &pairs,
+        |(old, new)| voltamar::notice(old, new, black_box(&mut a)),
+        |(old, new)| plain::notice(old, new, black_box(&mut b)),
+    );
+
+    let samples: Vec<(u32, u32)> = (0..10_000).map(|_| (random.u32(), random.mask())).collect();
+    compare(
+        "gather",
+        &samples,
+        |&(sample, mask)| voltamar::gather(sample, mask),
+        |&(sample, mask)| plain::gather(sample, mask),
+    );
+
+    // the words of accepted descriptions, and samples that are random
+    let terms: Vec<([u32; 4], u32)> =
+        (0..10_000).map(|_| (plain::term_words(random.u32(), random.mask()), random.u32())).collect();
+    compare(
+        "run_term",
+        &terms,
+        |(words, sample)| voltamar::run_term(words, *sample),
+        |(words, sample)| plain::run_term(words, *sample),
+    );
+    let ranges: Vec<([u32; 32], u32)> = (0..10_000)
+        .map(|_| {
+            let [lower, upper, mask] = make::range(&mut random);
+            (plain::range_words(lower, upper, mask), random.u32())
+        })
+        .collect();
+    compare(
+        "run_range",
+        &ranges,
+        |(words, sample)| voltamar::run_range(words, *sample),
+        |(words, sample)| plain::run_range(words, *sample),
+    );
+    let edges: Vec<([u32; 8], u32, u32)> = (0..10_000)
+        .map(|_| {
+            let [rise, fall, neither] = make::edge(&mut random);
+            (plain::edge_words(rise, fall, neither), random.u32(), random.u32())
+        })
+        .collect();
+    compare(
+        "run_edge",
+        &edges,
+        |(words, earlier, later)| voltamar::run_edge(words, *earlier, *later),
+        |(words, earlier, later)| plain::run_edge(words, *earlier, *later),
+    );
+    let sums: Vec<([u32; 6], u16)> = (0..10_000)
+        .map(|_| (plain::sum_words(&std::array::from_fn(|_| random.below(10) as u8)), random.u32() as u16))
+        .collect();
+    compare(
+        "run_sum",
+        &sums,
+        |(words, sources)| voltamar::run_sum(words, *sources),
+        |(words, sources)| plain::run_sum(words, *sources),
+    );
+}

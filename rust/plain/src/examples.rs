@@ -1,0 +1,180 @@
+//! The files of examples/: sample sheets and what the calls give for them.
+use crate::make::{self, Setup};
+use crate::{notice, read, LONGEST_NOTICE, LONGEST_SHEET, SIZE};
+use std::fmt::Write;
+
+/// Adds a record to a section of a sheet in the making.
+fn add(setup: &mut Setup, section: usize, slot: u8, label: &str, description: &[u8]) {
+    let mut record = vec![slot];
+    record.extend(format!("{label:<8}").bytes());
+    record.extend(description);
+    assert_eq!(record.len(), SIZE[section], "{label}");
+    setup.sections[section].push(record);
+}
+
+fn term(setup: &mut Setup, slot: u8, label: &str, target: u32, mask: u32) {
+    add(setup, 0, slot, label, &[target, mask].map(u32::to_le_bytes).concat());
+}
+
+fn range(setup: &mut Setup, slot: u8, label: &str, lower: u32, upper: u32, mask: u32) {
+    add(setup, 1, slot, label, &[lower, upper, mask].map(u32::to_le_bytes).concat());
+}
+
+fn edge(setup: &mut Setup, slot: u8, label: &str, rise: u32, fall: u32, neither: u32) {
+    add(setup, 2, slot, label, &[rise, fall, neither].map(u32::to_le_bytes).concat());
+}
+
+/// The operations in the sheet's order: ab, c, d, e, fg, h, i, j, mid1, mid2, final.
+fn sum(setup: &mut Setup, state: u8, part: u8, label: &str, operations: [&str; 11]) {
+    let code = |name: &str| OPERATIONS.iter().position(|&known| known == name).expect("an operation") as u8;
+    add(setup, 3, 3 * state + part, label, &operations.map(code));
+}
+
+const OPERATIONS: [&str; 10] = ["NOP", "ANY", "AND", "NAND", "OR", "NOR", "XOR", "NXOR", "A", "B"];
+
+/// The older sheet of the rules' door-lock pair.
+fn old() -> Setup {
+    let mut s = Setup::default();
+    term(&mut s, 0, "DOORLOCK", 5, 0xF);
+    term(&mut s, 1, "BRAKE", 4, 0xF);
+    range(&mut s, 0, "FLOORS", 3, 9, 0xF00);
+    s
+}
+
+/// The newer sheet of that pair.
+fn new() -> Setup {
+    let mut s = Setup::default();
+    term(&mut s, 0, "DOORLK", 5, 0xF);
+    term(&mut s, 1, "BRAKE", 6, 0xF);
+    term(&mut s, 2, "LEVELLED", 0x10, 0x10);
+    s
+}
+
+/// A lift controller's set-up; README.md says what each line is.
+fn lift() -> Setup {
+    let mut s = Setup::default();
+    term(&mut s, 0, "DOORLOCK", 0x5, 0xF);
+    term(&mut s, 1, "DRSHUT", 0x30, 0x30);
+    term(&mut s, 2, "UP", 0x3_4000, 0x3_C000);
+    term(&mut s, 3, "DOWN", 0x3_8000, 0x3_C000);
+    term(&mut s, 4, "BOTHDIR", 0xC000, 0xC000);
+    term(&mut s, 5, "CHAINOPN", 0, 0x10_0000);
+    term(&mut s, 6, "ESTOP", 0x20_0000, 0x20_0000);
+    term(&mut s, 7, "INSPECT", 0x40_0000, 0x40_0000);
+    term(&mut s, 9, "LEVEL", 0x4_0000, 0x5_0000);
+    range(&mut s, 0, "FLOOR3-9", 3, 9, 0x3F00);
+    range(&mut s, 1, "OVERSPD", 100, 127, 0x7F00_0000);
+    edge(&mut s, 0, "DOORMOVE", 0x40, 0x30, 0);
+    edge(&mut s, 1, "STUCK", 0x8_0000, 0, 0x8000_0000);
+    let (no, or) = ("NOP", "OR");
+    //                            ab     c    d    e    fg   h    i    j    mid1   mid2 final
+    sum(&mut s, 0, 0, "S0 LOCK", ["AND", no, no, no, no, no, no, no, or, no, or]);
+    sum(&mut s, 0, 1, "S0 ALARM", [no, no, no, no, or, no, no, no, no, or, or]);
+    sum(&mut s, 0, 2, "S0 CAPT", [no, no, "B", no, no, no, no, no, or, no, or]);
+    sum(&mut s, 1, 0, "S1 MOVE", [no, "A", "A", no, no, no, no, no, or, no, or]);
+    sum(&mut s, 1, 1, "S1 ALARM", [no, no, no, "A", or, no, no, no, or, or, or]);
+    sum(&mut s, 1, 2, "S1 CAPT", [no, no, no, no, no, no, no, no, no, no, "ANY"]);
+    sum(&mut s, 2, 0, "S2 FAULT", [no, no, no, "A", no, "B", "B", no, or, or, or]);
+    sum(&mut s, 2, 1, "S2 LEVEL", [no, no, no, no, no, no, no, "A", no, or, or]);
+    sum(&mut s, 2, 2, "S2 CAPT", [no, "B", "A", no, no, no, no, no, or, no, or]);
+    sum(&mut s, 3, 0, "S3 STOP", [no, "A", "A", no, no, no, no, no, "NOR", no, or]);
+    sum(&mut s, 3, 1, "S3 INSP", [no, no, no, no, no, "A", no, no, no, or, or]);
+    sum(&mut s, 3, 2, "S3 CAPT", ["XOR", no, no, no, no, no, no, no, or, no, or]);
+    s
+}
+
+/// The lift's set-up as revised: a line of the notice for each thing that can be said whatever sample is chosen.
+fn revised() -> Setup {
+    let mut s = lift();
+    s.sections[0].clear();
+    term(&mut s, 0, "DOORLOCK", 0x7, 0xF); // another code
+    term(&mut s, 1, "DOORSHUT", 0x30, 0x30); // another label
+    term(&mut s, 2, "UP", 0x3_4000, 0x3_C000);
+    term(&mut s, 3, "DOWN", 0x3_8000, 0x3_C000);
+    term(&mut s, 4, "BOTHDIR", 0xFFFF, 0xC000); // target bits that the mask ignores
+    term(&mut s, 5, "CHAINOPN", 0, 0x10_0000);
+    term(&mut s, 6, "ESTOP", 0x20_0000, 0x20_0000);
+    term(&mut s, 7, "INSPECT", 0x40_0000, 0x40_0000);
+    term(&mut s, 8, "LEVEL", 0x4_0000, 0x5_0000); // moved to another slot
+    s.sections[1].clear();
+    range(&mut s, 1, "OVERSPD", 25, 31, 0x7C00_0000); // without two lines that cannot matter
+    s.sections[2].clear();
+    edge(&mut s, 0, "DOORMOVE", 0x40, 0x30, 0);
+    edge(&mut s, 1, "STANDS", 0x8_0000, 0, 0x8000_0000); // another label
+    s.sections[3][8][1 + 8 + 1] = 0; // S2 CAPT asks for range 1 no more
+    sum(&mut s, 4, 0, "S4 ANY", ["NOP", "NOP", "NOP", "NOP", "NOP", "NOP", "NOP", "NOP", "NOP", "NOP", "ANY"]);
+    s
+}
+
+fn hex(bytes: &[u8]) -> String {
+    bytes.iter().map(|byte| format!("{byte:02X}")).collect::<Vec<_>>().join(" ")
+}
+
+/// A sheet byte by byte: offset, bytes, what they are.
+fn sheet_text(setup: &Setup) -> String {
+    const NAME: [&str; 4] = ["terms", "ranges", "edges", "sums"];
+    const FIELDS: [&[&str]; 4] = [&["target", "mask"], &["lower", "upper", "mask"], &["rise", "fall", "neither"], &[]];
+    let mut text = String::new();
+    let mut at = 0;
+    let mut line = |bytes: &[u8], what: &str| {
+        let _ = writeln!(text, "{at:>4}  {:<32}  {what}", hex(bytes));
+        at += bytes.len();
+    };
+    for (section, records) in setup.sections.iter().enumerate() {
+        line(&[records.len() as u8], &format!("{}: {}", NAME[section], records.len()));
+        for record in records {
+            line(&record[..1], &format!("slot {}", record[0]));
+            line(&record[1..9], &format!("label {:?}", String::from_utf8_lossy(&record[1..9])));
+            for (field, bytes) in FIELDS[section].iter().zip(record[9..].chunks(4)) {
+                line(bytes, &format!("{field} {:X} hex", u32::from_le_bytes(bytes.try_into().expect("four bytes"))));
+            }
+            if section == 3 {
+                let names: Vec<_> = record[9..].iter().map(|&code| OPERATIONS[code as usize]).collect();
+                line(&record[9..], &format!("ab c d e fg h i j mid1 mid2 final: {}", names.join(" ")));
+            }
+        }
+    }
+    text
+}
+
+/// The commands one to a line: offset, bytes, what they are.
+fn commands_text(commands: &[u8]) -> String {
+    let mut text = String::new();
+    for (n, command) in commands.chunks(5).enumerate() {
+        let number = u32::from_le_bytes(command[1..].try_into().expect("four bytes"));
+        let what = if command[0] == 0x9E { format!("select {number:02X}") } else { format!("  {number:08X}") };
+        let _ = writeln!(text, "{:>4}  {}  {what}", 5 * n, hex(command));
+    }
+    text
+}
+
+/// What reading a sheet's commands back gives.
+fn back(commands: &[u8]) -> Vec<u8> {
+    let mut out = vec![0; LONGEST_SHEET];
+    let length = read(commands, &mut out).expect("the commands of an accepted sheet");
+    out.truncate(length);
+    out
+}
+
+fn noticed(old: &Setup, new: &Setup) -> Vec<u8> {
+    let mut out = vec![0; LONGEST_NOTICE];
+    let length = notice(&old.sheet(), &new.sheet(), &mut out).expect("two accepted sheets");
+    out.truncate(length);
+    out
+}
+
+/// Every file: its name and its bytes.
+pub fn files() -> Vec<(String, Vec<u8>)> {
+    let mut files = Vec::new();
+    for (name, setup) in [("old", old()), ("new", new()), ("lift", lift()), ("lift-revised", revised())] {
+        let commands = make::stream(&setup.sheet());
+        files.push((format!("{name}.sheet"), setup.sheet()));
+        files.push((format!("{name}.sheet.txt"), sheet_text(&setup).into_bytes()));
+        files.push((format!("{name}.commands.txt"), commands_text(&commands).into_bytes()));
+        files.push((format!("{name}.back"), back(&commands)));
+        files.push((format!("{name}.commands"), commands));
+    }
+    files.push(("old-new.notice".into(), noticed(&old(), &new())));
+    files.push(("lift-revised.notice".into(), noticed(&lift(), &revised())));
+    files
+}

@@ -1,0 +1,34 @@
+//! The rules of the set-up sheet once more, in plain Rust: written from the rules alone, with nothing of the proved
+//! crates, so that where both give the same bytes two readings agree. Needs no library.
+mod detect;
+pub mod examples;
+pub mod make;
+mod notice;
+mod sheet;
+mod stream;
+
+pub use detect::{edge_hit, gather, range_hit, run_edge, run_range, run_sum, run_term, term_hit};
+pub use detect::{edge_words, range_words, sum_words, term_words};
+pub use detect::{read_edge, read_range, read_sum, read_term};
+pub use notice::{least_telling_range, least_telling_term, notice, notice_agrees, telling_edge, NoticeRefusal};
+pub use sheet::{check, section, LONGEST_SHEET, MOST, SIZE};
+pub use stream::{compile, read, LONGEST_STREAM};
+
+/// The longest notice: every slot of both sheets with a changed label and a changed description.
+pub const LONGEST_NOTICE: usize = 1756;
+
+/// A refusal: its number, and its place (for 12 the bytes needed, for 17 the words needed).
+#[derive(Clone, Copy, Debug, PartialEq, Eq)]
+pub struct Refusal {
+    pub number: u8,
+    pub place: usize,
+}
+
+fn refused<T>(number: u8, place: usize) -> Result<T, Refusal> {
+    Err(Refusal { number, place })
+}
+
+/// The number whose least byte stands at `at`.
+fn number_at(bytes: &[u8], at: usize) -> u32 {
+    u32::from_le_bytes([bytes[at], bytes[at + 1], bytes[at + 2], bytes[at + 3]])
+}

@@ -1,0 +1,492 @@
+//! Inputs to compare on: random sheets, sheets that are near one another, damaged sheets, damaged streams, chain words.
+use crate::sheet::description_fault;
+use crate::{compile, LONGEST_STREAM, MOST, SIZE};
+
+/// A small generator of random numbers (xorshift64*), so that no other crate is needed. The seed is not 0.
+pub struct Random(pub u64);
+
+impl Random {
+    pub fn u64(&mut self) -> u64 {
+        self.0 ^= self.0 >> 12;
+        self.0 ^= self.0 << 25;
+        self.0 ^= self.0 >> 27;
+        self.0.wrapping_mul(0x2545_F491_4F6C_DD1D)
+    }
+
+    pub fn u32(&mut self) -> u32 {
+        (self.u64() >> 32) as u32
+    }
+
+    pub fn u8(&mut self) -> u8 {
+        (self.u64() >> 56) as u8
+    }
+
+    /// A number below `n`.
+    pub fn below(&mut self, n: usize) -> usize {
+        (self.u64() >> 33) as usize % n
+    }
+
+    /// True one time in `n`.
+    pub fn one_in(&mut self, n: usize) -> bool {
+        self.below(n) == 0
+    }
+
+    pub fn bytes(&mut self, length: usize) -> Vec<u8> {
+        (0..length).map(|_| self.u8()).collect()
+    }
+
+    pub fn pick<T: Copy>(&mut self, from: &[T]) -> T {
+        from[self.below(from.len())]
+    }
+
+    /// A mask of any shape: none, one line, few, half, many, all, neighbours.
+    pub fn mask(&mut self) -> u32 {
+        match self.below(9) {
+            0 => 0,
+            1 => 1 << self.below(32),
+            2 => self.u32() & self.u32() & self.u32(),
+            3 => self.u32() | self.u32() | self.u32(),
+            4 => u32::MAX,
+            5 => {
+                let from = self.below(32);
+                (u32::MAX >> self.below(32 - from)) & (u32::MAX << from)
+            }
+            6 => self.u32() & 15 << (4 * self.below(8)),
+            _ => self.u32(),
+        }
+    }
+
+    /// A number of bytes of room around what is needed: too short, exact, larger, none, plenty.
+    pub fn room(&mut self, needed: usize) -> usize {
+        match self.below(6) {
+            0 => needed.saturating_sub(1),
+            1 => needed,
+            2 => needed + 1 + self.below(40),
+            3 => self.below(needed + 1),
+            4 => 0,
+            _ => LONGEST_STREAM + self.below(3),
+        }
+    }
+}
+
+/// A sheet in parts: for each section its records, each record its bytes.
+#[derive(Clone, Default)]
+pub struct Setup {
+    pub sections: [Vec<Vec<u8>>; 4],
+}
+
+impl Setup {
+    /// An accepted sheet; each slot is taken `taken` times in eight.
+    pub fn random(random: &mut Random, taken: usize) -> Setup {
+        let mut setup = Setup::default();
+        for section in 0..4 {
+            for slot in 0..MOST[section] {
+                if random.below(8) < taken {
+                    let record = record(random, section, slot);
+                    setup.sections[section].push(record);
+                }
+            }
+        }
+        setup
+    }
+
+    /// The sheet's bytes.
+    pub fn sheet(&self) -> Vec<u8> {
+        let mut bytes = Vec::new();
+        for records in &self.sections {
+            bytes.push(records.len() as u8);
+            bytes.extend(records.concat());
+        }
+        bytes
+    }
+
+    /// Another accepted sheet, not far from this one.
+    pub fn near(&self, random: &mut Random) -> Setup {
+        let mut setup = self.clone();
+        for section in 0..4 {
+            let records = &mut setup.sections[section];
+            for record in records.iter_mut() {
+                match random.below(8) {
+                    0 => record[1 + random.below(8)] = label_byte(random),
+                    1 => {
+                        record.truncate(9);
+                        record.extend(description(random, section));
+                    }
+                    2 | 3 => nudge(random, section, record),
+                    4 => {
+                        nudge(random, section, record);
+                        record[1..9].copy_from_slice(&label(random));
+                    }
+                    _ => {}
+                }
+            }
+            records.retain(|_| !random.one_in(12));
+            for slot in 0..MOST[section] {
+                let at = records.partition_point(|record| record[0] < slot);
+                let free = records.get(at).is_none_or(|record| record[0] != slot);
+                if free && random.one_in(16) {
+                    // a record moved to a free slot, or a fresh one
+                    if records.is_empty() || random.one_in(2) {
+                        records.insert(at, self::record(random, section, slot));
+                    } else {
+                        let mut moved = records.remove(random.below(records.len()));
+                        moved[0] = slot;
+                        let at = records.partition_point(|record| record[0] < slot);
+                        records.insert(at, moved);
+                    }
+                }
+            }
+        }
+        setup
+    }
+}
+
+fn label_byte(random: &mut Random) -> u8 {
+    match random.below(8) {
+        0 => 0x20,
+        1 => 0x7E,
+        _ => 0x20 + random.below(0x5F) as u8,
+    }
+}
+
+fn label(random: &mut Random) -> [u8; 8] {
+    std::array::from_fn(|_| label_byte(random))
+}
+
+fn record(random: &mut Random, section: usize, slot: u8) -> Vec<u8> {
+    let mut record = vec![slot];
+    record.extend(label(random));
+    record.extend(description(random, section));
+    record
+}
+
+fn numbers(numbers: &[u32]) -> Vec<u8> {
+    numbers.iter().flat_map(|number| number.to_le_bytes()).collect()
+}
+
+/// An accepted description of a term (section 0), range (1), edge (2) or sum (3).
+pub fn description(random: &mut Random, section: usize) -> Vec<u8> {
+    match section {
+        0 => numbers(&[if random.one_in(2) { random.u32() } else { random.mask() }, random.mask()]),
+        1 => numbers(&range(random)),
+        2 => numbers(&edge(random)),
+        _ => (0..11).map(|_| random.below(10) as u8).collect(),
+    }
+}
+
+/// An accepted range: lower, upper, mask.
+pub fn range(random: &mut Random) -> [u32; 3] {
+    let mut mask = random.mask();
+    while mask == 0 {
+        mask = random.mask();
+    }
+    let biggest = ((1u64 << mask.count_ones()) - 1) as u32;
+    // many trailing digits alike make lines that cannot matter
+    let zeros = random.below(mask.count_ones() as usize);
+    let lower = match random.below(4) {
+        0 => 1,
+        1 => biggest,
+        2 => ((random.u32() % biggest) >> zeros << zeros).max(1),
+        _ => 1 + random.u32() % biggest,
+    };
+    let upper = match random.below(4) {
+        0 => lower,
+        1 => biggest,
+        2 => (random.u32() & biggest | ((1u64 << zeros) - 1) as u32).max(lower),
+        _ => lower + random.u32() % (biggest - lower).max(1),
+    };
+    [lower, upper.min(biggest), mask]
+}
+
+/// An accepted edge: rise, fall, neither.
+pub fn edge(random: &mut Random) -> [u32; 3] {
+    let neither = random.mask();
+    [random.mask() & !neither, random.mask() & !neither, neither]
+}
+
+/// Changes a record's description a little, and keeps it accepted. Many of the changes change no hit.
+fn nudge(random: &mut Random, section: usize, record: &mut [u8]) {
+    let before = record.to_vec();
+    let number = |at: usize| u32::from_le_bytes(before[at..at + 4].try_into().expect("four bytes"));
+    match section {
+        0 => {
+            let (target, mask) = (number(9), number(13));
+            let (target, mask) = match random.below(3) {
+                0 => (target ^ random.u32() & !mask, mask),
+                1 => (target, mask ^ 1 << random.below(32)),
+                _ => (target ^ 1 << random.below(32), mask),
+            };
+            record[9..].copy_from_slice(&numbers(&[target, mask]));
+        }
+        1 => record[9..].copy_from_slice(&numbers(&near_range(random, [number(9), number(13), number(17)]))),
+        2 => {
+            let at = 9 + random.below(12);
+            record[at] ^= 1 << random.below(8);
+        }
+        _ => record[9 + random.below(11)] = random.below(10) as u8,
+    }
+    if description_fault(section, &record[9..]).is_some() {
+        record.copy_from_slice(&before);
+    }
+}
+
+/// A range with one line more that cannot matter, or one such line fewer, or another bound or line.
+fn near_range(random: &mut Random, [lower, upper, mask]: [u32; 3]) -> [u32; 3] {
+    let lowest = mask & mask.wrapping_neg();
+    let line = 1 << random.below(32);
+    match random.below(5) {
+        0 if line < lowest && upper >> 31 == 0 => [2 * lower, 2 * upper + 1, mask | line],
+        1 if lower % 2 == 0 && upper % 2 == 1 => [lower / 2, upper / 2, mask & !lowest],
+        2 => [lower.wrapping_add(1), upper, mask],
+        3 => [lower, upper.wrapping_sub(1), mask],
+        _ => [lower, upper, mask ^ line],
+    }
+}
+
+/// A sheet with some faults in it, or none.
+pub fn damaged_sheet(random: &mut Random, setup: &Setup) -> Vec<u8> {
+    let mut setup = setup.clone();
+    for _ in 0..random.pick(&[0, 1, 1, 1, 2, 3]) {
+        let section = random.below(4);
+        let records = &mut setup.sections[section];
+        if records.is_empty() {
+            continue;
+        }
+        let which = random.below(records.len());
+        let before = records[which.saturating_sub(1)][0];
+        let record = &mut records[which];
+        match (random.below(6), section) {
+            (0, _) => record[0] = MOST[section] + random.pick(&[0, 0, 1, 100]),
+            (1, _) => record[0] = before,
+            (2, _) => record[1 + random.below(8)] = random.pick(&[0x1F, 0x7F, 0x00, 0xFF, 0x80]),
+            (_, 1) => {
+                let mask = u32::from_le_bytes(record[17..21].try_into().expect("four bytes"));
+                let past = (1u64 << mask.count_ones()) as u32;
+                match random.below(6) {
+                    0 => record[9..13].fill(0),
+                    1 => record[13..17].fill(0),
+                    2 => record[13..17].copy_from_slice(&past.to_le_bytes()),
+                    3 => record[17..21].fill(0),
+                    4 => record[9..21].fill(0),
+                    _ => record[9..13].copy_from_slice(&past.to_le_bytes()),
+                }
+            }
+            (_, 2) => {
+                let line = random.below(32);
+                record[17 + line / 8] |= 1 << (line % 8);
+                record[9 + 4 * random.below(2) + line / 8] |= 1 << (line % 8);
+            }
+            (_, 3) => record[9 + random.below(11)] = random.pick(&[10, 11, 255, 9, 128]),
+            _ => {
+                let at = random.below(record.len());
+                record[at] = random.u8();
+            }
+        }
+    }
+    if random.one_in(8) {
+        let section = random.below(4);
+        let records = &mut setup.sections[section];
+        if let Some(last) = records.last().cloned() {
+            // one record too many, which the count of a full section does not bear
+            records.push(last);
+        }
+    }
+    let mut sheet = setup.sheet();
+    match random.below(10) {
+        0 => sheet.truncate(random.below(sheet.len() + 1)),
+        1 => sheet.extend((0..1 + random.below(30)).map(|_| random.u8())),
+        2 => {
+            let at = random.below(sheet.len());
+            sheet[at] = random.u8();
+        }
+        3 => {
+            // a count that is not true
+            let section = random.below(4);
+            let at = (0..section).map(|s| 1 + setup.sections[s].len() * SIZE[s]).sum::<usize>();
+            sheet[at] = random.pick(&[sheet[at].wrapping_add(1), sheet[at].wrapping_sub(1), MOST[section] + 1, 255, 0]);
+        }
+        _ => {}
+    }
+    sheet
+}
+
+/// Bytes with no plan, but for counts that are mostly small.
+pub fn noise_sheet(random: &mut Random) -> Vec<u8> {
+    let most = random.pick(&[0, 1, 4, 5, 20, 60, 1218, 1230]);
+    let length = random.below(most + 1);
+    let mut sheet = random.bytes(length);
+    for byte in &mut sheet {
+        if random.one_in(2) {
+            *byte %= 12;
+        }
+    }
+    sheet
+}
+
+/// The commands of a sheet.
+pub fn stream(sheet: &[u8]) -> Vec<u8> {
+    let mut out = vec![0; LONGEST_STREAM];
+    let length = compile(sheet, &mut out).expect("an accepted sheet");
+    out.truncate(length);
+    out
+}
+
+/// The commands of the sheet with some damage, or none.
+pub fn damaged_stream(random: &mut Random, setup: &Setup) -> Vec<u8> {
+    let mut commands: Vec<[u8; 5]> =
+        stream(&setup.sheet()).chunks_exact(5).map(|c| c.try_into().expect("five bytes")).collect();
+    for _ in 0..random.pick(&[0, 1, 1, 1, 2]) {
+        if !commands.is_empty() {
+            damage_commands(random, &mut commands);
+        }
+    }
+    let mut bytes = commands.concat();
+    match random.below(12) {
+        0 => bytes.truncate(random.below(bytes.len() + 1)),
+        1 => bytes.extend((0..1 + random.below(6)).map(|_| random.pick(&[0x9E, 0x9F, 0, 0x40, 0x20]))),
+        2 if !bytes.is_empty() => {
+            let at = random.below(bytes.len());
+            bytes[at] = random.u8();
+        }
+        3 if !bytes.is_empty() => {
+            bytes.remove(random.below(bytes.len()));
+        }
+        _ => {}
+    }
+    bytes
+}
+
+/// Where each chain starts: at its select.
+fn selects(commands: &[[u8; 5]]) -> Vec<usize> {
+    (0..commands.len()).filter(|&at| commands[at][0] == 0x9E).collect()
+}
+
+fn damage_commands(random: &mut Random, commands: &mut Vec<[u8; 5]>) {
+    let at = random.below(commands.len());
+    let selects = selects(commands);
+    let select = if selects.is_empty() { at } else { random.pick(&selects) };
+    let word = random.below(commands.len());
+    match random.below(16) {
+        0 => commands[at][0] ^= 1,
+        1 => commands[at][0] = random.u8(),
+        2 => commands[at][random.below(5)] ^= 1 << random.below(8),
+        3 => {
+            commands.remove(at);
+        }
+        4 => commands.insert(at, commands[at]),
+        5 => commands.truncate(at),
+        6 => commands[select][1] = random.pick(&[0x1F, 0x2A, 0x31, 0x33, 0x36, 0x38, 0x3F, 0x43, 0x7F, 0x80, 0x00]),
+        7 => commands[select][1] = commands[select][1].wrapping_add(random.pick(&[1, 2, 3, 0xFF])),
+        8 => commands[select][2 + random.below(3)] = random.pick(&[1, 0x80]),
+        9 => swap_chains(random, commands, &selects),
+        10 => drop_chain(random, commands, &selects),
+        11 => repeat_chain(random, commands, &selects),
+        // half words that some chain knows, in a place where another may be due
+        12..=14 if commands[word][0] == 0x9F => {
+            let known: [u16; 16] = [
+                0xFFFF, 0xAAAA, 0x5555, 0x0000, 0x8000, 0xA5A5, 0xCC33, 0xAFAF, 0xF888, 0xFEE9, 0x000E, 0x0002, 0x0A0A,
+                0x33CC, 0x0020, 0x7FFF,
+            ];
+            let half = random.below(2);
+            commands[word][1 + 2 * half..3 + 2 * half].copy_from_slice(&random.pick(&known).to_le_bytes());
+        }
+        _ => odd_range(random, commands, &selects),
+    }
+}
+
+fn end_of(commands: &[[u8; 5]], selects: &[usize], which: usize) -> usize {
+    selects.get(which + 1).copied().unwrap_or(commands.len())
+}
+
+fn swap_chains(random: &mut Random, commands: &mut [[u8; 5]], selects: &[usize]) {
+    if selects.len() >= 2 {
+        let which = random.below(selects.len() - 1);
+        let (start, end) = (selects[which], end_of(commands, selects, which + 1));
+        commands[start..end].rotate_left(selects[which + 1] - start);
+    }
+}
+
+fn drop_chain(random: &mut Random, commands: &mut Vec<[u8; 5]>, selects: &[usize]) {
+    if !selects.is_empty() {
+        // an upper chain without its lower one, or the other way round, where there is one
+        let chains: Vec<usize> =
+            (0..selects.len()).filter(|&which| (0x30..0x34).contains(&commands[selects[which]][1])).collect();
+        let which = if chains.is_empty() { random.below(selects.len()) } else { random.pick(&chains) };
+        let end = end_of(commands, selects, which);
+        commands.drain(selects[which]..end);
+    }
+}
+
+fn repeat_chain(random: &mut Random, commands: &mut Vec<[u8; 5]>, selects: &[usize]) {
+    if !selects.is_empty() {
+        let which = random.below(selects.len());
+        let end = end_of(commands, selects, which);
+        let chain = commands[selects[which]..end].to_vec();
+        commands.splice(end..end, chain);
+    }
+}
+
+/// Changes a range's chains in a way that keeps every table one that ranges know.
+fn odd_range(random: &mut Random, commands: &mut [[u8; 5]], selects: &[usize]) {
+    let lowers: Vec<usize> = selects.iter().copied().filter(|&at| matches!(commands[at][1], 0x30 | 0x32)).collect();
+    if lowers.is_empty() {
+        return;
+    }
+    let start = random.pick(&lowers);
+    let (first, end) = random.pick(&[(1, 17), (18, 34), (1, 34)]);
+    let (from, to) = random.pick(&[(0x55, 0xAA), (0xAA, 0x55), (0xAA, 0xFF), (0x55, 0xFF), (0xFF, 0xAA)]);
+    for command in commands.iter_mut().skip(start).take(end).skip(first) {
+        if command[0] == 0x9F {
+            for byte in &mut command[1..] {
+                if *byte == from {
+                    *byte = to;
+                }
+            }
+        }
+    }
+}
+
+/// Bytes that look like commands here and there.
+pub fn noise_stream(random: &mut Random) -> Vec<u8> {
+    let length = random.below(80);
+    let mut bytes = random.bytes(length);
+    for at in (0..bytes.len()).step_by(5) {
+        bytes[at] = random.pick(&[0x9E, 0x9F, 0x9F, 0x9E, 0x00]);
+        if bytes[at] == 0x9E && at + 5 <= bytes.len() {
+            bytes[at + 1..at + 5].fill(0);
+            bytes[at + 1] = random.pick(&[0x20, 0x21, 0x30, 0x34, 0x40, 0x41, 0x43, 0x31]);
+        }
+    }
+    bytes
+}
+
+/// Any chain words, with many of the half words that chains are made of.
+pub fn words(random: &mut Random, count: usize) -> Vec<u32> {
+    let plan = random.below(3);
+    let mut half = || match plan {
+        0 => random.u32() & 0xFFFF,
+        1 => random.pick(&[0xFFFF, 0xFFFF, 0xFFFF, 0xAAAA, 0x5555, 0xFFFE, 0x7FFF]),
+        _ => random.pick(&[0, 0, 0, 0, 0, 0, 1, 0x8000, 0x0A0A]),
+    };
+    (0..count).map(|_| half() << 16 | half()).collect()
+}
+
+/// How often each answer came: 0 done, else the refusal's number.
+#[derive(Default, Debug)]
+pub struct Tally([usize; 18]);
+
+impl Tally {
+    pub fn count(&mut self, number: u8) {
+        self.0[usize::from(number)] += 1;
+    }
+
+    /// Stops unless done and each of these refusals came at least so often, and no other did.
+    pub fn expect(&self, refusals: std::ops::RangeInclusive<usize>, done: usize, each: usize) {
+        let fits = |(number, &times): (usize, &usize)| match number {
+            0 => times >= done,
+            _ if refusals.contains(&number) => times >= each,
+            _ => times == 0,
+        };
+        assert!(self.0.iter().enumerate().all(fits), "times that each number came: {self:?}");
+    }
+}

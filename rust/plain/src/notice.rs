@@ -1,0 +1,286 @@
+//! The alteration notice: one that the rules allow, and the test of any other.
+use crate::sheet::{parts, three, two, DESCRIPTION, MOST, SIZE};
+use crate::{edge_hit, range_hit, Refusal, LONGEST_NOTICE};
+
+/// A refused notice: the sheet that the refusal is of, or the bytes needed (12 is of neither).
+#[derive(Clone, Copy, Debug, PartialEq, Eq)]
+pub enum NoticeRefusal {
+    Old(Refusal),
+    New(Refusal),
+    Short { needed: usize },
+}
+
+// ---- what tells two apart ----
+
+/// The least sample on which exactly one of two walks ends alive. A walk looks at a sample's lines from 31 down and
+/// keeps a state below 5, where 0 is a sure miss; it starts with 1. All reachable pairs of states are tried, line by
+/// line, the line's value 0 first; a pair that failed once is not tried again.
+fn least_telling(old: impl Fn(u32, u32, u8) -> u8, new: impl Fn(u32, u32, u8) -> u8) -> Option<u32> {
+    struct Search<A, B> {
+        old: A,
+        new: B,
+        failed: [u32; 33], // after a line is looked at: one bit for each pair of states
+    }
+    impl<A: Fn(u32, u32, u8) -> u8, B: Fn(u32, u32, u8) -> u8> Search<A, B> {
+        /// The lines from `lines - 1` down are still to come.
+        fn from(&mut self, lines: u32, old: u8, new: u8) -> Option<u32> {
+            if lines == 0 {
+                return ((old != 0) != (new != 0)).then_some(0);
+            }
+            let pair = 1 << (5 * old + new);
+            if old == 0 && new == 0 || self.failed[lines as usize] & pair != 0 {
+                return None;
+            }
+            let line = lines - 1;
+            for value in 0..2 {
+                let (next_old, next_new) = ((self.old)(line, value, old), (self.new)(line, value, new));
+                if let Some(rest) = self.from(line, next_old, next_new) {
+                    return Some(value << line | rest);
+                }
+            }
+            self.failed[lines as usize] |= pair;
+            None
+        }
+    }
+    Search { old, new, failed: [0; 33] }.from(32, 1, 1)
+}
+
+/// A term's walk: alive while each masked line has the target's value.
+fn term_walk((target, mask): (u32, u32)) -> impl Fn(u32, u32, u8) -> u8 {
+    move |line, value, state| if mask >> line & 1 == 1 && target >> line & 1 != value { 0 } else { state }
+}
+
+/// A range's walk compares the number's digits, the highest first, with those of both bounds: 1 equal to both so far,
+/// one more when above the lower bound, two more when below the upper bound.
+fn range_walk((lower, upper, mask): (u32, u32, u32)) -> impl Fn(u32, u32, u8) -> u8 {
+    move |line, value, state| {
+        if mask >> line & 1 == 0 || state == 0 {
+            return state;
+        }
+        let rank = (mask & ((1 << line) - 1)).count_ones();
+        let (mut above, mut below) = ((state - 1) & 1, (state - 1) >> 1);
+        let (low, high) = (lower >> rank & 1, upper >> rank & 1);
+        if above == 0 && value < low || below == 0 && value > high {
+            return 0;
+        }
+        above |= u8::from(value > low);
+        below |= u8::from(value < high);
+        1 + above + 2 * below
+    }
+}
+
+/// Two terms (target, mask): the least sample that tells them apart, or none.
+pub fn least_telling_term(old: (u32, u32), new: (u32, u32)) -> Option<u32> {
+    least_telling(term_walk(old), term_walk(new))
+}
+
+/// Two accepted ranges (lower, upper, mask): a sample that tells them apart (here the least), or none.
+pub fn least_telling_range(old: (u32, u32, u32), new: (u32, u32, u32)) -> Option<u32> {
+    least_telling(range_walk(old), range_walk(new))
+}
+
+/// Two accepted edges (rise, fall, neither): an earlier and a later sample that tell them apart, or none.
+pub fn telling_edge(old: (u32, u32, u32), new: (u32, u32, u32)) -> Option<(u32, u32)> {
+    asked_by_one(old, new).or_else(|| asked_by_one(new, old))
+}
+
+/// An event that the one asks for and the other does not, on a line; elsewhere only what the other does not ask for.
+fn asked_by_one(one: (u32, u32, u32), other: (u32, u32, u32)) -> Option<(u32, u32)> {
+    // all lines stay 0, but those where the other asks for neither rise, which it does not ask for there
+    let (earlier, later) = (0, other.2);
+    let lowest = |lines: u32| lines & lines.wrapping_neg();
+    let (rise, fall, neither) = (one.0 & !other.0, one.1 & !other.1, one.2 & !other.2);
+    if rise != 0 {
+        Some((earlier & !lowest(rise), later | lowest(rise)))
+    } else if fall != 0 {
+        Some((earlier | lowest(fall), later & !lowest(fall)))
+    } else if neither != 0 {
+        Some((earlier & !lowest(neither), later & !lowest(neither)))
+    } else {
+        None
+    }
+}
+
+// ---- the lines ----
+
+/// What a line says of its slot.
+enum Verdict<'a> {
+    New,
+    Gone,
+    Name,
+    Word,
+    Oper,
+    Altr { shown: Telling, old: &'a [u8], new: &'a [u8] },
+}
+
+/// A telling sample, or an earlier and a later one.
+#[derive(Clone, Copy)]
+enum Telling {
+    One(u32),
+    Two(u32, u32),
+}
+
+const KIND: [&[u8; 4]; 4] = [b"TERM", b"RANG", b"EDGE", b"SUMS"];
+
+/// Every line that two accepted sheets give, by section and then slot.
+fn each_line<'a>(old: &[&'a [u8]; 4], new: &[&'a [u8]; 4], mut say: impl FnMut(usize, u8, Verdict<'a>)) {
+    for section in 0..4 {
+        let mut before = old[section].chunks_exact(SIZE[section]).peekable();
+        let mut after = new[section].chunks_exact(SIZE[section]).peekable();
+        for slot in 0..MOST[section] {
+            let old = before.next_if(|record| record[0] == slot);
+            let new = after.next_if(|record| record[0] == slot);
+            match (old, new) {
+                (None, None) => {}
+                (None, Some(_)) => say(section, slot, Verdict::New),
+                (Some(_), None) => say(section, slot, Verdict::Gone),
+                (Some(old), Some(new)) => {
+                    if old[1..DESCRIPTION] != new[1..DESCRIPTION] {
+                        say(section, slot, Verdict::Name);
+                    }
+                    if old[DESCRIPTION..] != new[DESCRIPTION..] {
+                        say(section, slot, changed(section, &old[DESCRIPTION..], &new[DESCRIPTION..]));
+                    }
+                }
+            }
+        }
+    }
+}
+
+/// What is said of two descriptions that are not the same bytes.
+fn changed<'a>(section: usize, old: &'a [u8], new: &'a [u8]) -> Verdict<'a> {
+    let told = match section {
+        0 => least_telling_term(two(old), two(new)).map(Telling::One),
+        1 => least_telling_range(three(old), three(new)).map(Telling::One),
+        2 => telling_edge(three(old), three(new)).map(|(earlier, later)| Telling::Two(earlier, later)),
+        _ => return Verdict::Oper,
+    };
+    match told {
+        Some(shown) => Verdict::Altr { shown, old, new },
+        None => Verdict::Word,
+    }
+}
+
+// ---- the text ----
+
+/// The notice while it is written: the longest one has room.
+struct Page {
+    bytes: [u8; LONGEST_NOTICE],
+    length: usize,
+}
+
+impl Page {
+    fn put(&mut self, bytes: &[u8]) {
+        self.bytes[self.length..self.length + bytes.len()].copy_from_slice(bytes);
+        self.length += bytes.len();
+    }
+
+    fn hex(&mut self, number: u32) {
+        self.put(b" ");
+        for digit in (0..8).rev() {
+            self.put(&[b"0123456789ABCDEF"[(number >> (4 * digit) & 15) as usize]]);
+        }
+    }
+
+    fn head(&mut self, section: usize, slot: u8) {
+        self.put(KIND[section]);
+        self.put(&[b' ', b'0' + slot / 10, b'0' + slot % 10, b' ']);
+    }
+
+    fn line(&mut self, section: usize, slot: u8, verdict: &Verdict) {
+        self.head(section, slot);
+        match verdict {
+            Verdict::New => self.put(b"NEW"),
+            Verdict::Gone => self.put(b"GONE"),
+            Verdict::Name => self.put(b"NAME"),
+            Verdict::Word => self.put(b"WORD"),
+            Verdict::Oper => self.put(b"OPER"),
+            Verdict::Altr { shown, .. } => {
+                self.put(b"ALTR");
+                match *shown {
+                    Telling::One(sample) => self.hex(sample),
+                    Telling::Two(earlier, later) => {
+                        self.hex(earlier);
+                        self.hex(later);
+                    }
+                }
+            }
+        }
+        self.put(b"\n");
+    }
+}
+
+/// Writes a notice that the rules allow.
+pub fn notice(old: &[u8], new: &[u8], out: &mut [u8]) -> Result<usize, NoticeRefusal> {
+    let old = parts(old).map_err(NoticeRefusal::Old)?;
+    let new = parts(new).map_err(NoticeRefusal::New)?;
+    let mut page = Page { bytes: [0; LONGEST_NOTICE], length: 0 };
+    each_line(&old, &new, |section, slot, verdict| page.line(section, slot, &verdict));
+    let Some(room) = out.get_mut(..page.length) else {
+        return Err(NoticeRefusal::Short { needed: page.length });
+    };
+    room.copy_from_slice(&page.bytes[..page.length]);
+    Ok(page.length)
+}
+
+/// Whether a text is a notice of these two sheets by the rules. All of it is fixed but the samples of a range's or an
+/// edge's ALTR line; of those it is asked that they tell the two apart. Says what is wrong.
+pub fn notice_agrees(old: &[u8], new: &[u8], text: &[u8]) -> Result<(), String> {
+    let old = parts(old).map_err(|refusal| format!("the old sheet is refused: {refusal:?}"))?;
+    let new = parts(new).map_err(|refusal| format!("the new sheet is refused: {refusal:?}"))?;
+    let mut rest = text;
+    let mut wrong = None;
+    each_line(&old, &new, |section, slot, verdict| {
+        if wrong.is_some() {
+            return;
+        }
+        let mut want = Page { bytes: [0; LONGEST_NOTICE], length: 0 };
+        want.line(section, slot, &verdict);
+        let want = &want.bytes[..want.length];
+        let (line, after) = rest.split_at(want.len().min(rest.len()));
+        let good = match verdict {
+            // a term's sample is the least one, so it too is fixed
+            Verdict::Altr { old, new, .. } if section != 0 => {
+                line.len() == want.len() && shows(section, old, new, line, want)
+            }
+            _ => line == want,
+        };
+        if !good {
+            let (line, want) = (String::from_utf8_lossy(line), String::from_utf8_lossy(want));
+            wrong = Some(format!("at {}: {line:?}, where the rules give {want:?}", text.len() - rest.len()));
+        }
+        rest = after;
+    });
+    match wrong {
+        Some(wrong) => Err(wrong),
+        None if !rest.is_empty() => Err(format!("{} bytes after the last line", rest.len())),
+        None => Ok(()),
+    }
+}
+
+/// Whether a line is the wanted one but for its samples, and these tell the two apart by the plain rule.
+fn shows(section: usize, old: &[u8], new: &[u8], line: &[u8], want: &[u8]) -> bool {
+    const FIRST: usize = "RANG 00 ALTR ".len();
+    let (old, new) = (three(old), three(new));
+    let ends = line[..FIRST] == want[..FIRST] && line.ends_with(b"\n");
+    if section == 1 {
+        return ends
+            && sample(&line[FIRST..FIRST + 8]).is_some_and(|sample| {
+                range_hit(old.0, old.1, old.2, sample) != range_hit(new.0, new.1, new.2, sample)
+            });
+    }
+    let (earlier, later) = (sample(&line[FIRST..FIRST + 8]), sample(&line[FIRST + 9..FIRST + 17]));
+    ends && line[FIRST + 8] == b' '
+        && earlier.zip(later).is_some_and(|(earlier, later)| {
+            edge_hit(old.0, old.1, old.2, earlier, later) != edge_hit(new.0, new.1, new.2, earlier, later)
+        })
+}
+
+/// Eight capital hex digits.
+fn sample(digits: &[u8]) -> Option<u32> {
+    digits.iter().try_fold(0, |number: u32, digit| match digit {
+        b'0'..=b'9' => Some(number << 4 | u32::from(digit - b'0')),
+        b'A'..=b'F' => Some(number << 4 | u32::from(digit - b'A' + 10)),
+        _ => None,
+    })
+}

@@ -1,0 +1,103 @@
+//! The set-up sheet: four sections (terms, ranges, edges, sums), each after its count.
+use crate::{number_at, refused, Refusal};
+
+/// Records that a section may have, and the bytes of one record.
+pub const MOST: [u8; 4] = [10, 2, 2, 48];
+pub const SIZE: [usize; 4] = [17, 21, 21, 20];
+
+pub const LONGEST_SHEET: usize = 1218;
+
+/// Where a record's description starts: after slot and label.
+pub const DESCRIPTION: usize = 9;
+
+pub fn check(sheet: &[u8]) -> Result<(), Refusal> {
+    parts(sheet).map(|_| ())
+}
+
+/// The check's number (0: accepted), then start and length of one section's records; 0, 0 where there are none.
+pub fn section(sheet: &[u8], number: u8) -> (u8, usize, usize) {
+    match parts(sheet) {
+        Err(refusal) => (refusal.number, 0, 0),
+        Ok(parts) => match parts.get(number as usize) {
+            Some(part) if !part.is_empty() => (0, part.as_ptr() as usize - sheet.as_ptr() as usize, part.len()),
+            _ => (0, 0, 0),
+        },
+    }
+}
+
+/// The records of the four sections, or the first fault from the left.
+pub(crate) fn parts(sheet: &[u8]) -> Result<[&[u8]; 4], Refusal> {
+    let mut parts: [&[u8]; 4] = [&[]; 4];
+    let mut at = 0;
+    for section in 0..4 {
+        let Some(&count) = sheet.get(at) else { return refused(1, at) };
+        if count > MOST[section] {
+            return refused(2, at);
+        }
+        at += 1;
+        let start = at;
+        let mut before = None;
+        for _ in 0..count {
+            let Some(record) = sheet.get(at..at + SIZE[section]) else { return refused(1, at) };
+            if let Some(number) = fault(section, record, before) {
+                return refused(number, at);
+            }
+            before = Some(record[0]);
+            at += SIZE[section];
+        }
+        parts[section] = &sheet[start..at];
+    }
+    if at < sheet.len() {
+        return refused(11, at);
+    }
+    Ok(parts)
+}
+
+/// What is wrong with a whole record, by the lowest number; `before` is the slot of the record before it.
+fn fault(section: usize, record: &[u8], before: Option<u8>) -> Option<u8> {
+    let slot = record[0];
+    if slot >= MOST[section] {
+        return Some(3);
+    }
+    if before.is_some_and(|before| slot <= before) {
+        return Some(4);
+    }
+    if record[1..DESCRIPTION].iter().any(|&byte| !(0x20..=0x7E).contains(&byte)) {
+        return Some(5);
+    }
+    description_fault(section, &record[DESCRIPTION..])
+}
+
+pub(crate) fn description_fault(section: usize, description: &[u8]) -> Option<u8> {
+    match section {
+        1 => {
+            let (lower, upper, mask) = three(description);
+            let biggest = (1u64 << mask.count_ones()) - 1;
+            if lower == 0 {
+                Some(6)
+            } else if lower > upper {
+                Some(7)
+            } else if u64::from(upper) > biggest {
+                Some(8)
+            } else {
+                None
+            }
+        }
+        2 => {
+            let (rise, fall, neither) = three(description);
+            (neither & (rise | fall) != 0).then_some(9)
+        }
+        3 => description.iter().any(|&operation| operation > 9).then_some(10),
+        _ => None,
+    }
+}
+
+/// The numbers of a range (lower, upper, mask) or of an edge (rise, fall, neither).
+pub(crate) fn three(description: &[u8]) -> (u32, u32, u32) {
+    (number_at(description, 0), number_at(description, 4), number_at(description, 8))
+}
+
+/// The numbers of a term: target and mask.
+pub(crate) fn two(description: &[u8]) -> (u32, u32) {
+    (number_at(description, 0), number_at(description, 4))
+}

@@ -1,0 +1,232 @@
+//! What the buyer's demands say, tried on the plain implementation itself: by brute force where few lines are enough,
+//! on random inputs elsewhere.
+use plain::make::{self, Random, Setup};
+use plain::*;
+
+/// Samples worth trying: random ones and those around a description's numbers.
+fn samples(random: &mut Random, near: &[u32]) -> Vec<u32> {
+    let mut samples: Vec<u32> = (0..20).map(|_| random.mask()).collect();
+    for &number in near {
+        samples.extend([
+            number,
+            !number,
+            number.wrapping_add(1),
+            number.wrapping_sub(1),
+            number ^ 1 << random.below(32),
+        ]);
+    }
+    samples
+}
+
+/// The lowest bits of the number on the mask's lines.
+fn scatter(number: u32, mask: u32) -> u32 {
+    let (mut sample, mut rank) = (0, 0);
+    for line in 0..32 {
+        if mask >> line & 1 == 1 {
+            sample |= (number >> rank & 1) << line;
+            rank += 1;
+        }
+    }
+    sample
+}
+
+#[test]
+fn words_run_in_the_model_hit_by_the_plain_rule() {
+    let mut random = Random(1);
+    let mut rarer = [0; 3]; // hits of terms and ranges, misses of edges: the rarer answer of each
+    for _ in 0..20_000 {
+        let (target, mask) = (random.u32(), random.mask());
+        let words = term_words(target, mask);
+        for sample in samples(&mut random, &[target, target & mask]) {
+            assert_eq!(run_term(&words, sample), Ok(term_hit(target, mask, sample)));
+            rarer[0] += usize::from(term_hit(target, mask, sample));
+        }
+        let [lower, upper, mask] = make::range(&mut random);
+        let words = range_words(lower, upper, mask);
+        let near: Vec<u32> = [lower, lower - 1, upper, upper.wrapping_add(1)].map(|x| scatter(x, mask)).to_vec();
+        for sample in samples(&mut random, &near) {
+            assert_eq!(run_range(&words, sample), Ok(range_hit(lower, upper, mask, sample)));
+            rarer[1] += usize::from(range_hit(lower, upper, mask, sample));
+        }
+        let [rise, fall, neither] = make::edge(&mut random);
+        let words = edge_words(rise, fall, neither);
+        for earlier in samples(&mut random, &[]) {
+            for later in [earlier, !earlier, earlier ^ 1 << random.below(32), random.mask(), neither, !earlier & !rise]
+            {
+                assert_eq!(run_edge(&words, earlier, later), Ok(edge_hit(rise, fall, neither, earlier, later)));
+                rarer[2] += usize::from(!edge_hit(rise, fall, neither, earlier, later));
+            }
+        }
+    }
+    assert!(rarer.iter().all(|&count| count > 10_000), "both answers came: {rarer:?}");
+}
+
+/// Every accepted range over the lines of `within`.
+fn ranges(within: u32) -> Vec<(u32, u32, u32)> {
+    let mut all = Vec::new();
+    for mask in 1..=within {
+        if mask & !within == 0 {
+            let biggest = (1 << mask.count_ones()) - 1;
+            for lower in 1..=biggest {
+                all.extend((lower..=biggest).map(|upper| (lower, upper, mask)));
+            }
+        }
+    }
+    all
+}
+
+#[test]
+fn ranges_are_told_apart_exactly_when_some_sample_does() {
+    let all = ranges(0b1111);
+    let (mut words, mut alike) = (0, 0);
+    for &old in &all {
+        for &new in &all {
+            let tells = |&s: &u32| range_hit(old.0, old.1, old.2, s) != range_hit(new.0, new.1, new.2, s);
+            let least = (0..16).find(tells);
+            assert_eq!(least_telling_range(old, new), least, "{old:?} {new:?}");
+            if least.is_none() {
+                alike += 1;
+                words += usize::from(range_words(old.0, old.1, old.2) != range_words(new.0, new.1, new.2));
+            } else {
+                assert_ne!(range_words(old.0, old.1, old.2), range_words(new.0, new.1, new.2));
+            }
+        }
+    }
+    // with the lines spread out, the samples spread out with them
+    for &old in all.iter().step_by(7) {
+        for &new in all.iter().step_by(5) {
+            let spread = |(lower, upper, mask): (u32, u32, u32)| (lower, upper, scatter(mask, 0x8410_0001));
+            let least = least_telling_range(old, new).map(|sample| scatter(sample, 0x8410_0001));
+            assert_eq!(least_telling_range(spread(old), spread(new)), least);
+        }
+    }
+    assert!(alike > all.len() && words > 0, "{alike} alike, {words} of them with other words");
+}
+
+#[test]
+fn terms_are_told_apart_by_the_least_sample() {
+    for both in 0..1u32 << 16 {
+        let [t, m, u, n] = [0, 4, 8, 12].map(|at| both >> at & 15);
+        let least = (0..16).find(|&s| term_hit(t, m, s) != term_hit(u, n, s));
+        assert_eq!(least_telling_term((t, m), (u, n)), least);
+        assert_eq!(least.is_none(), term_words(t, m) == term_words(u, n));
+        // at other lines
+        let spread = |x| scatter(x, 0xA000_0240);
+        let far = least_telling_term((spread(t), spread(m)), (spread(u), spread(n)));
+        assert_eq!(far, least.map(spread));
+    }
+}
+
+#[test]
+fn edges_are_told_apart_exactly_when_some_pair_does() {
+    // the wishes of two lines: 5 x 5 for each edge
+    let wishes = [(0, 0, 0), (1, 0, 0), (0, 1, 0), (1, 1, 0), (0, 0, 1)];
+    let all: Vec<(u32, u32, u32)> = wishes
+        .iter()
+        .flat_map(|a| wishes.iter().map(|b| (a.0 | b.0 << 1, a.1 | b.1 << 1, a.2 | b.2 << 1)).collect::<Vec<_>>())
+        .collect();
+    for &old in &all {
+        for &new in &all {
+            let hit = |d: (u32, u32, u32), pair: u32| edge_hit(d.0, d.1, d.2, pair >> 2, pair & 3);
+            // lines 2 to 31 ask for nothing, so what they do does not matter
+            let some = (0..16).any(|pair| hit(old, pair) != hit(new, pair));
+            let told = telling_edge(old, new);
+            assert_eq!(told.is_some(), some);
+            assert_eq!(some, edge_words(old.0, old.1, old.2) != edge_words(new.0, new.1, new.2));
+            if let Some((earlier, later)) = told {
+                let hit = |d: (u32, u32, u32)| edge_hit(d.0, d.1, d.2, earlier, later);
+                assert_ne!(hit(old), hit(new));
+            }
+        }
+    }
+}
+
+#[test]
+fn reading_back_gives_what_writes_the_words() {
+    let mut random = Random(2);
+    for _ in 0..20_000 {
+        let (target, mask) = (random.u32(), random.mask());
+        assert_eq!(read_term(&term_words(target, mask)), Some((target & mask, mask)));
+        let [lower, upper, mask] = make::range(&mut random);
+        assert_eq!(read_range(&range_words(lower, upper, mask)), Some((lower, upper, mask)));
+        let [rise, fall, neither] = make::edge(&mut random);
+        assert_eq!(read_edge(&edge_words(rise, fall, neither)), Some((rise, fall, neither)));
+        let operations = std::array::from_fn(|_| random.below(10) as u8);
+        assert_eq!(read_sum(&sum_words(&operations)), Some(operations));
+    }
+    // a range that no sheet may hold is not read, though its tables are known ones
+    for (lower, upper, mask) in [(0, 3, 3), (2, 1, 3), (0, 0, 0), (4, 3, 3)] {
+        assert_eq!(read_range(&range_words(lower, upper, mask)), None);
+    }
+    // every table: read exactly if some description writes it
+    let mut known = [0; 2];
+    for table in 0..=0xFFFF {
+        let term = (0..256).any(|both| term_words(both & 15, both >> 4)[3] & 0xFFFF == table);
+        assert_eq!(read_term(&[u32::MAX, u32::MAX, u32::MAX, 0xFFFF_0000 | table]).is_some(), term);
+        known[0] += usize::from(term);
+        let edge = (0..64u32).any(|six| {
+            let [rise, fall, neither] = [six & 3, six >> 2 & 3, six >> 4];
+            neither & (rise | fall) == 0 && edge_words(rise, fall, neither)[7] == table
+        });
+        assert_eq!(read_edge(&[0, 0, 0, 0, 0, 0, 0, table]).is_some(), edge);
+        known[1] += usize::from(edge);
+    }
+    assert_eq!(known, [81, 25]);
+}
+
+#[test]
+fn a_stream_is_read_exactly_if_its_sheet_writes_it() {
+    let mut random = Random(3);
+    let (mut done, mut refused) = (0, [0; 18]);
+    for _ in 0..40_000 {
+        let taken = random.below(9);
+        let setup = Setup::random(&mut random, taken);
+        let stream = make::damaged_stream(&mut random, &setup);
+        let mut sheet = vec![0; LONGEST_SHEET];
+        match read(&stream, &mut sheet) {
+            Ok(length) => {
+                sheet.truncate(length);
+                assert_eq!(check(&sheet), Ok(()));
+                assert_eq!(make::stream(&sheet), stream);
+                done += 1;
+            }
+            Err(refusal) => {
+                assert!(refusal.place <= stream.len());
+                refused[refusal.number as usize] += 1;
+            }
+        }
+    }
+    assert!(done > 4_000 && (13..=16).all(|number| refused[number] > 1_000), "{done} {refused:?}");
+}
+
+#[test]
+fn notices_have_every_line() {
+    let mut random = Random(4);
+    let mut met = std::collections::BTreeMap::<String, usize>::new();
+    for _ in 0..10_000 {
+        let taken = random.below(9);
+        let old = Setup::random(&mut random, taken);
+        let new = old.near(&mut random);
+        let (old, new) = (old.sheet(), new.sheet());
+        let mut out = vec![0; LONGEST_NOTICE];
+        let length = notice(&old, &new, &mut out).expect("two accepted sheets");
+        notice_agrees(&old, &new, &out[..length]).expect("its own notice");
+        for line in String::from_utf8(out[..length].to_vec()).unwrap().lines() {
+            *met.entry(format!("{} {}", &line[..4], &line[8..line.len().min(12)])).or_default() += 1;
+        }
+    }
+    let kinds = ["TERM", "RANG", "EDGE", "SUMS"];
+    let verdicts: [&[&str]; 4] = [
+        &["NEW", "GONE", "NAME", "ALTR", "WORD"],
+        &["NEW", "GONE", "NAME", "ALTR", "WORD"],
+        &["NEW", "GONE", "NAME", "ALTR"],
+        &["NEW", "GONE", "NAME", "OPER"],
+    ];
+    for (kind, verdicts) in kinds.iter().zip(verdicts) {
+        for verdict in verdicts {
+            let count = met.remove(&format!("{kind} {verdict}")).unwrap_or(0);
+            assert!(count > 100, "{kind} {verdict}: {count}");
+        }
+    }
+    assert!(met.is_empty(), "{met:?}");
+}

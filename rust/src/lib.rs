@@ -1,0 +1,171 @@
+//! Safe calls over the proved static library (crates/voltamar_c). No call asks anything of its caller: what the C
+//! header asks, the borrow checker sees to. A refused call leaves `out` as it was; a call that is done leaves the bytes
+//! beyond the length it answers.
+
+/// Room for the longest sheet, the most commands and the longest notice.
+pub const LONGEST_SHEET: usize = 1218;
+pub const LONGEST_STREAM: usize = 2360;
+pub const LONGEST_NOTICE: usize = 1756;
+
+/// A refusal: its number, and its place (for 12 the bytes needed, for 17 the words needed).
+#[derive(Clone, Copy, Debug, PartialEq, Eq)]
+pub struct Refusal {
+    pub number: u8,
+    pub place: usize,
+}
+
+/// A refused notice: the sheet that the refusal is of, or the bytes needed (12 is of neither).
+#[derive(Clone, Copy, Debug, PartialEq, Eq)]
+pub enum NoticeRefusal {
+    Old(Refusal),
+    New(Refusal),
+    Short { needed: usize },
+}
+
+/// The library's calls as they are; include/voltamar.h says what each promises and asks.
+pub mod raw {
+    extern "C" {
+        pub fn voltamar_check(sheet: *const u8, n: usize, place: *mut usize) -> u8;
+        pub fn voltamar_section(sheet: *const u8, n: usize, number: u8, start: *mut usize, length: *mut usize) -> u8;
+        pub fn voltamar_compile(sheet: *const u8, n: usize, out: *mut u8, room: usize, place: *mut usize) -> u8;
+        pub fn voltamar_read(stream: *const u8, n: usize, out: *mut u8, room: usize, place: *mut usize) -> u8;
+        pub fn voltamar_notice(
+            old: *const u8,
+            n: usize,
+            new: *const u8,
+            k: usize,
+            out: *mut u8,
+            room: usize,
+            which: *mut u8,
+            place: *mut usize,
+        ) -> u8;
+        pub fn voltamar_gather(sample: u32, mask: u32) -> u32;
+        pub fn voltamar_run_term(words: *const u32, n: usize, sample: u32, hit: *mut u8, place: *mut usize) -> u8;
+        pub fn voltamar_run_range(words: *const u32, n: usize, sample: u32, hit: *mut u8, place: *mut usize) -> u8;
+        pub fn voltamar_run_edge(
+            words: *const u32,
+            n: usize,
+            earlier: u32,
+            later: u32,
+            hit: *mut u8,
+            place: *mut usize,
+        ) -> u8;
+        pub fn voltamar_run_sum(words: *const u32, n: usize, sources: u16, hit: *mut u8, place: *mut usize) -> u8;
+        pub fn voltamar_term_hit(target: u32, mask: u32, sample: u32) -> bool;
+        pub fn voltamar_range_hit(lower: u32, upper: u32, mask: u32, sample: u32) -> bool;
+        pub fn voltamar_edge_hit(rise: u32, fall: u32, neither: u32, earlier: u32, later: u32) -> bool;
+    }
+}
+
+// SAFETY, for every call below: a slice gives its own pointer and its own length, a `&mut` overlaps nothing else, the
+// other pointers are to locals, and the library keeps nothing after it answers.
+
+/// The answer by its number: done with what is given, or refused at the place.
+fn answer<T>(number: u8, place: usize, done: T) -> Result<T, Refusal> {
+    match number {
+        0 => Ok(done),
+        number => Err(Refusal { number, place }),
+    }
+}
+
+/// Judges a sheet.
+pub fn check(sheet: &[u8]) -> Result<(), Refusal> {
+    let mut place = 0;
+    let number = unsafe { raw::voltamar_check(sheet.as_ptr(), sheet.len(), &mut place) };
+    answer(number, place, ())
+}
+
+/// The part of the sheet that holds one section's records, without the count: 0 terms, 1 ranges, 2 edges, 3 sums. It is
+/// empty for a number above 3. A refused sheet gives the check's number.
+pub fn section(sheet: &[u8], number: u8) -> Result<&[u8], u8> {
+    let (mut start, mut length) = (0, 0);
+    match unsafe { raw::voltamar_section(sheet.as_ptr(), sheet.len(), number, &mut start, &mut length) } {
+        0 => Ok(&sheet[start..][..length]),
+        refused => Err(refused),
+    }
+}
+
+/// Writes a sheet's commands to the start of `out` and answers their length.
+pub fn compile(sheet: &[u8], out: &mut [u8]) -> Result<usize, Refusal> {
+    let mut place = 0;
+    let number = unsafe { raw::voltamar_compile(sheet.as_ptr(), sheet.len(), out.as_mut_ptr(), out.len(), &mut place) };
+    answer(number, place, place)
+}
+
+/// Writes the sheet that a command stream is of to the start of `out` and answers its length.
+pub fn read(stream: &[u8], out: &mut [u8]) -> Result<usize, Refusal> {
+    let mut place = 0;
+    let number = unsafe { raw::voltamar_read(stream.as_ptr(), stream.len(), out.as_mut_ptr(), out.len(), &mut place) };
+    answer(number, place, place)
+}
+
+/// Writes the alteration notice of two sheets to the start of `out` and answers its length.
+pub fn notice(old: &[u8], new: &[u8], out: &mut [u8]) -> Result<usize, NoticeRefusal> {
+    let (mut which, mut place) = (0, 0);
+    let number = unsafe {
+        raw::voltamar_notice(
+            old.as_ptr(),
+            old.len(),
+            new.as_ptr(),
+            new.len(),
+            out.as_mut_ptr(),
+            out.len(),
+            &mut which,
+            &mut place,
+        )
+    };
+    match (number, which) {
+        (0, _) => Ok(place),
+        (_, 1) => Err(NoticeRefusal::Old(Refusal { number, place })),
+        (_, 2) => Err(NoticeRefusal::New(Refusal { number, place })),
+        _ => Err(NoticeRefusal::Short { needed: place }),
+    }
+}
+
+/// The sample's masked lines, the lowest line at bit 0.
+pub fn gather(sample: u32, mask: u32) -> u32 {
+    unsafe { raw::voltamar_gather(sample, mask) }
+}
+
+/// Runs a term's four chain words on a sample.
+pub fn run_term(words: &[u32], sample: u32) -> Result<bool, Refusal> {
+    let (mut hit, mut place) = (0, 0);
+    let number = unsafe { raw::voltamar_run_term(words.as_ptr(), words.len(), sample, &mut hit, &mut place) };
+    answer(number, place, hit != 0)
+}
+
+/// Runs a range's thirty-two chain words, the lower chain first, on a sample.
+pub fn run_range(words: &[u32], sample: u32) -> Result<bool, Refusal> {
+    let (mut hit, mut place) = (0, 0);
+    let number = unsafe { raw::voltamar_run_range(words.as_ptr(), words.len(), sample, &mut hit, &mut place) };
+    answer(number, place, hit != 0)
+}
+
+/// Runs an edge's eight chain words on an earlier and a later sample.
+pub fn run_edge(words: &[u32], earlier: u32, later: u32) -> Result<bool, Refusal> {
+    let (mut hit, mut place) = (0, 0);
+    let number = unsafe { raw::voltamar_run_edge(words.as_ptr(), words.len(), earlier, later, &mut hit, &mut place) };
+    answer(number, place, hit != 0)
+}
+
+/// Runs a sum's six chain words on the sixteen sources.
+pub fn run_sum(words: &[u32], sources: u16) -> Result<bool, Refusal> {
+    let (mut hit, mut place) = (0, 0);
+    let number = unsafe { raw::voltamar_run_sum(words.as_ptr(), words.len(), sources, &mut hit, &mut place) };
+    answer(number, place, hit != 0)
+}
+
+/// The plain rule of a term.
+pub fn term_hit(target: u32, mask: u32, sample: u32) -> bool {
+    unsafe { raw::voltamar_term_hit(target, mask, sample) }
+}
+
+/// The plain rule of a range.
+pub fn range_hit(lower: u32, upper: u32, mask: u32, sample: u32) -> bool {
+    unsafe { raw::voltamar_range_hit(lower, upper, mask, sample) }
+}
+
+/// The plain rule of an edge.
+pub fn edge_hit(rise: u32, fall: u32, neither: u32, earlier: u32, later: u32) -> bool {
+    unsafe { raw::voltamar_edge_hit(rise, fall, neither, earlier, later) }
+}

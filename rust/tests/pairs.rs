@@ -1,0 +1,83 @@
+//! notice of the proved library against the plain implementation, on pairs of sheets that are near one another, and on
+//! damaged ones. All is compared byte by byte but the samples that the rules leave open (an ALTR line of a range or an
+//! edge): of those it is seen that they tell the two apart.
+use plain::make::{self, Random, Setup, Tally};
+
+const PAIRS: usize = 100_000;
+
+/// Which sheet a refusal is of (0 neither, 1 old, 2 new), its number and place.
+type Refused = (usize, u8, usize);
+
+fn proved(answer: Result<usize, voltamar::NoticeRefusal>) -> Result<usize, Refused> {
+    answer.map_err(|refusal| match refusal {
+        voltamar::NoticeRefusal::Old(r) => (1, r.number, r.place),
+        voltamar::NoticeRefusal::New(r) => (2, r.number, r.place),
+        voltamar::NoticeRefusal::Short { needed } => (0, 12, needed),
+    })
+}
+
+fn plain(answer: Result<usize, plain::NoticeRefusal>) -> Result<usize, Refused> {
+    answer.map_err(|refusal| match refusal {
+        plain::NoticeRefusal::Old(r) => (1, r.number, r.place),
+        plain::NoticeRefusal::New(r) => (2, r.number, r.place),
+        plain::NoticeRefusal::Short { needed } => (0, 12, needed),
+    })
+}
+
+/// Sound eight times in ten.
+fn bytes(random: &mut Random, setup: &Setup) -> Vec<u8> {
+    match random.below(10) {
+        0 => make::damaged_sheet(random, setup),
+        1 if random.one_in(4) => make::noise_sheet(random),
+        _ => setup.sheet(),
+    }
+}
+
+#[test]
+fn notice_agrees() {
+    let mut random = Random(0xBF58_476D_1CE4_E5B9);
+    // by which sheet is refused: neither (done, or 12), old, new
+    let (mut proved_tally, mut plain_tally): ([Tally; 3], [Tally; 3]) = Default::default();
+    for _ in 0..PAIRS {
+        let taken = random.below(9);
+        let setup = Setup::random(&mut random, taken);
+        let next = if random.one_in(8) { Setup::random(&mut random, taken) } else { setup.near(&mut random) };
+        let (old, new) = (bytes(&mut random, &setup), bytes(&mut random, &next));
+        let needed = plain::notice(&old, &new, &mut [0; plain::LONGEST_NOTICE]).unwrap_or(100);
+        let room = random.room(needed);
+        let noise = random.bytes(room);
+        let (mut a, mut b) = (noise.clone(), noise.clone());
+        let got = proved(voltamar::notice(&old, &new, &mut a));
+        let want = plain(plain::notice(&old, &new, &mut b));
+        assert_eq!(got, want, "room {room}, old {old:02X?}, new {new:02X?}");
+        match got {
+            Ok(length) => {
+                if let Err(wrong) = plain::notice_agrees(&old, &new, &a[..length]) {
+                    panic!("{wrong}; old {old:02X?}, new {new:02X?}");
+                }
+                assert!(a[length..] == noise[length..], "bytes beyond the notice, old {old:02X?}, new {new:02X?}");
+                proved_tally[0].count(0);
+                plain_tally[0].count(0);
+            }
+            Err((which, number, _)) => {
+                assert!(a == noise, "a refused call wrote, old {old:02X?}, new {new:02X?}");
+                proved_tally[which].count(number);
+                plain_tally[want.unwrap_err().0].count(want.unwrap_err().1);
+            }
+        }
+    }
+    for tally in [proved_tally, plain_tally] {
+        tally[0].expect(12..=12, PAIRS / 5, PAIRS / 10);
+        tally[1].expect(1..=11, 0, PAIRS / 20_000);
+        tally[2].expect(1..=11, 0, PAIRS / 20_000);
+    }
+}
+
+#[test]
+fn the_pair_given_whole() {
+    let examples = concat!(env!("CARGO_MANIFEST_DIR"), "/../examples/");
+    let load = |name: &str| std::fs::read(format!("{examples}{name}")).expect(name);
+    let mut out = [0; 60];
+    assert_eq!(voltamar::notice(&load("old.sheet"), &load("new.sheet"), &mut out), Ok(60));
+    assert_eq!(out, *b"TERM 00 NAME\nTERM 01 ALTR 00000004\nTERM 02 NEW\nRANG 00 GONE\n");
+}

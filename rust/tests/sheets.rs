@@ -1,0 +1,77 @@
+//! check, section and compile of the proved library against the plain implementation, on random and damaged sheets:
+//! the answers, and all the bytes of the buffers.
+use plain::make::{self, Random, Setup, Tally};
+
+const SHEETS: usize = 100_000;
+
+fn sheet(random: &mut Random) -> Vec<u8> {
+    let taken = random.below(9);
+    match random.below(10) {
+        0 => make::noise_sheet(random),
+        1..=3 => Setup::random(random, taken).sheet(),
+        _ => {
+            let setup = Setup::random(random, taken);
+            make::damaged_sheet(random, &setup)
+        }
+    }
+}
+
+fn pair(refusal: voltamar::Refusal) -> (u8, usize) {
+    (refusal.number, refusal.place)
+}
+
+fn plain_pair(refusal: plain::Refusal) -> (u8, usize) {
+    (refusal.number, refusal.place)
+}
+
+fn number<T>(answer: &Result<T, (u8, usize)>) -> u8 {
+    answer.as_ref().err().map_or(0, |refusal| refusal.0)
+}
+
+#[test]
+fn check_and_section_agree() {
+    let mut random = Random(0x9E37_79B9_7F4A_7C15);
+    let (mut proved, mut plain) = (Tally::default(), Tally::default());
+    for _ in 0..SHEETS {
+        let sheet = sheet(&mut random);
+        let got = voltamar::check(&sheet).map_err(pair);
+        let want = plain::check(&sheet).map_err(plain_pair);
+        assert_eq!(got, want, "sheet {sheet:02X?}");
+        proved.count(number(&got));
+        plain.count(number(&want));
+        for section in [0, 1, 2, 3, 4, random.u8()] {
+            let (mut start, mut length) = (usize::MAX, usize::MAX);
+            // SAFETY: the sheet's own pointer and length, and two locals.
+            let answer = unsafe {
+                voltamar::raw::voltamar_section(sheet.as_ptr(), sheet.len(), section, &mut start, &mut length)
+            };
+            let want = plain::section(&sheet, section);
+            assert_eq!((answer, start, length), want, "section {section} of {sheet:02X?}");
+            let part = voltamar::section(&sheet, section);
+            assert_eq!(part, if want.0 == 0 { Ok(&sheet[want.1..][..want.2]) } else { Err(want.0) });
+        }
+    }
+    proved.expect(1..=11, SHEETS / 5, SHEETS / 1000);
+    plain.expect(1..=11, SHEETS / 5, SHEETS / 1000);
+}
+
+#[test]
+fn compile_agrees() {
+    let mut random = Random(0xD1B5_4A32_D192_ED03);
+    let (mut proved, mut plain) = (Tally::default(), Tally::default());
+    for _ in 0..SHEETS {
+        let sheet = sheet(&mut random);
+        let needed = plain::compile(&sheet, &mut [0; plain::LONGEST_STREAM]).unwrap_or(100);
+        let room = random.room(needed);
+        let noise = random.bytes(room);
+        let (mut a, mut b) = (noise.clone(), noise);
+        let got = voltamar::compile(&sheet, &mut a).map_err(pair);
+        let want = plain::compile(&sheet, &mut b).map_err(plain_pair);
+        assert_eq!(got, want, "room {room}, sheet {sheet:02X?}");
+        assert!(a == b, "the buffer after room {room}, sheet {sheet:02X?}");
+        proved.count(number(&got));
+        plain.count(number(&want));
+    }
+    proved.expect(1..=12, SHEETS / 10, SHEETS / 1000);
+    plain.expect(1..=12, SHEETS / 10, SHEETS / 1000);
+}
