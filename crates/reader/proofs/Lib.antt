@@ -1,0 +1,13 @@
+pub mod Places
+pub mod Cutting
+pub mod Ways
+pub mod Chains
+pub mod Items
+pub mod Trip
+pub mod Again
+pub mod Enough
+pub mod Theorems
+pub mod Examples
+pub mod Walks
+pub mod Judged
+pub mod Written
