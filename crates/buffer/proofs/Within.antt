@@ -10,7 +10,8 @@ use mathlib.Core.Path.{_≡_, refl, sym, ap, _∙_}
 use lib.Dec.{leb}
 use lib.ListN.{length, getD, drop, drop-of-length-le}
 use lib.Seq.{drop-cons}
-use Rattle.buffer.specs.Bytes.{allWithin}
+use Rattle.buffer.specs.Bytes.{Bytes, allWithin}
+use Rattle.buffer.proofs.Numbers.{bytes-nil, bytes-cons}
 
 -- ---- what it says
 
@@ -22,6 +23,14 @@ within-at low high (b ∷ s) zero e h =
     let q = and-eq-true-iff (leb low b) (leb b high) .0 (p .0) in
     (leb-true low b (q .0), leb-true b high (q .1))
 within-at low high (b ∷ s) (suc i) e h = within-at low high s i (and-eq-true-iff (leb low b && leb b high) (allWithin low high s) .0 e .1) (omega arith)
+
+pub within-bytes : (low high : ℕ) (s : List ℕ) → high < 256 → allWithin low high s ≡ true → Bytes s
+unfolding allWithin
+within-bytes low high [] h e = bytes-nil
+within-bytes low high (b ∷ s) h e =
+    let p = and-eq-true-iff (leb low b && leb b high) (allWithin low high s) .0 e in
+    let q = and-eq-true-iff (leb low b) (leb b high) .0 (p .0) in
+    bytes-cons b s (omega (arith, leb-true b high (q .1))) (within-bytes low high s h (p .1))
 
 pub within-append : (low high : ℕ) (s t : List ℕ) → allWithin low high (s ++ t) ≡ (allWithin low high s && allWithin low high t)
 unfolding allWithin

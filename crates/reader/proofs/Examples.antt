@@ -1,0 +1,112 @@
+-- Streams worked out: each refusal 13 to 16 with its place, and which of two wins. One table, computed. Assumes nothing.
+use Prim.Native.Nat.{ℕ, _<_}
+use mathlib.Core.Path.{_≡_, refl}
+use mathlib.Core.Bool.{Bool, true, false, _&&_}
+use mathlib.Core.List.{List, [], _∷_, _++_}
+use lib.Count.{ones, trailingZeros}
+use lib.Dec.{T, eqb}
+use lib.ListN.{length, take, replicate}
+use Rattle.lines.specs.Line.{overLines, fromLines}
+use Rattle.lines.specs.Gather.{gathered, scattered}
+use Rattle.lines.specs.Same.{same}
+use Rattle.lut.specs.Table.{tableOf}
+use Rattle.buffer.specs.Bytes.{u32At, u32Bytes}
+use Rattle.buffer.specs.Room.{bytes}
+use Rattle.buffer.specs.declared.Verdict.{Verdict}
+use Rattle.buffer.specs.declared.Verdict.the-variants.{Accepted, Refused}
+use Rattle.command.specs.Command.{selectOp, loadOp, command, loads, chain}
+use Rattle.command.specs.Reading.{commandVerdict, loadsVerdict, wordsIn}
+use Rattle.command.proofs.Checked.{command-short}
+use Rattle.term.specs.Words as term-words
+use Rattle.term.specs.Back.{nibbleMask, wordPart, linesAfter, partOf, readTerm}
+use Rattle.range.specs.Words as range-words
+use Rattle.range.specs.Back.{linesWith, chainBound, readRange}
+use Rattle.edge.specs.Chain as edge-words
+use Rattle.edge.specs.Reading.{covers, wishFrom}
+use Rattle.sum.specs.Operation.{opCode, codesAccepted}
+use Rattle.sum.specs.Reading.{codesOf}
+use Rattle.sheet.specs.Sections.{rowOf, mostOf}
+use Rattle.sheet.specs.Parsed.{joined, render}
+use Rattle.compiler.specs.Items.{kindOf, addressOf, lengthsOf, sizeOf, itemSize}
+use Rattle.reader.specs.Addresses.{slotFrom, slotAt, sectionFrom, sectionAt}
+use Rattle.reader.specs.Judging.{itemWords, descriptionRead, descriptionIn, firstVerdict, chainsVerdict, itemVerdict, stepSize, restsFrom, rests, itemsVerdict, streamVerdict}
+use Rattle.reader.specs.Back.{recordIn, recordsOf, sectionsOf, sheetIn, readBack}
+use Rattle.reader.proofs.Cutting.{rests-some}
+
+-- ---- any stream of 1 to 4 bytes: 13 at 0
+
+pub short-stream : (s : List ℕ) → 0 < length s → length s < 5 → streamVerdict s ≡ Refused 13 0
+unfolding streamVerdict itemsVerdict itemVerdict firstVerdict
+short-stream s h l = rw (rests-some s h, command-short selectOp 0 s l)
+
+-- ---- the words are 01's own ('Bench examples'): term 1, target 5 and mask F; range 0, 3..9 with mask F
+
+pub term : List ℕ
+term = chain 0x21 (0xFFFFFFFF ∷ 0xFFFFFFFF ∷ 0xFFFFFFFF ∷ 0xFFFF0020 ∷ [])
+
+-- fourteen words FFFFFFFF, and two more
+pub ends : ℕ → ℕ → List ℕ
+ends x y = replicate 14 0xFFFFFFFF ++ (x ∷ y ∷ [])
+
+pub lower : List ℕ
+lower = chain 0x30 (ends 0x55555555 0xAAAA5555)
+
+pub upper : List ℕ
+upper = chain 0x31 (ends 0xAAAA5555 0x5555AAAA)
+
+-- what an example says: this stream gets this verdict
+pub record Example : Type 0 where
+  pub stream : List ℕ
+  pub expected : Verdict
+
+pub gives : List ℕ → Verdict → Example
+gives s v = record { stream = s; expected = v }
+
+agree : Verdict → Verdict → Bool
+agree Accepted Accepted = true
+agree Accepted (Refused number place) = false
+agree (Refused number place) Accepted = false
+agree (Refused number place) (Refused n p) = eqb number n && eqb place p
+
+pub allHold : List Example → Bool
+allHold [] = true
+allHold (e ∷ es) = agree (streamVerdict (e .stream)) (e .expected) && allHold es
+
+pub table : List Example
+table =
+    -- another command than the select that is due
+    gives (command loadOp 0x21) (Refused 14 0)
+    -- addresses: no part 3, more than a byte, an upper chain that is not due, one met before
+    ∷ gives (command selectOp 0x43) (Refused 15 0)
+    ∷ gives (command selectOp 0x120) (Refused 15 0)
+    ∷ gives upper (Refused 15 0)
+    ∷ gives (term ++ term) (Refused 15 25)
+    -- inside an item: no word, half a word, a select where a word is due
+    ∷ gives (take 20 term) (Refused 13 20)
+    ∷ gives (take 24 term) (Refused 13 20)
+    ∷ gives (take 20 term ++ lower) (Refused 14 20)
+    -- between a range's chains: the end, a word, another address than 31
+    ∷ gives lower (Refused 13 85)
+    ∷ gives (lower ++ command loadOp 0) (Refused 14 85)
+    ∷ gives (lower ++ command selectOp 0x32) (Refused 15 85)
+    -- a term's word one bit off; chains with different masks, behind a term
+    ∷ gives (chain 0x21 (0xFFFFFFFF ∷ 0xFFFFFFFF ∷ 0xFFFFFFFF ∷ 0xFFFF0021 ∷ [])) (Refused 16 0)
+    ∷ gives (term ++ (lower ++ chain 0x31 (ends 0xAAAA5555 0x5555FFFF))) (Refused 16 25)
+    -- mask 0; an edge's table that asks neither together with rise; a sum's first word with another high half than 0
+    ∷ gives (chain 0x30 (replicate 16 0xFFFFFFFF) ++ chain 0x31 (replicate 16 0xFFFFFFFF)) (Refused 16 0)
+    ∷ gives (chain 0x34 (0 ∷ 0 ∷ 0 ∷ 0 ∷ 0 ∷ 0 ∷ 0 ∷ 0xAFAF ∷ [])) (Refused 16 0)
+    ∷ gives (chain 0x40 (0x10000 ∷ 0 ∷ 0 ∷ 0 ∷ 0 ∷ 0 ∷ [])) (Refused 16 0)
+    -- nothing to refuse
+    ∷ gives (term ++ (lower ++ upper)) Accepted
+    ∷ []
+
+pub examples : T (allHold table)
+unfolding allHold agree gives table term ends lower upper streamVerdict itemsVerdict rests restsFrom stepSize itemVerdict firstVerdict chainsVerdict descriptionIn descriptionRead itemWords commandVerdict loadsVerdict wordsIn loads itemSize sizeOf lengthsOf addressOf kindOf mostOf rowOf sectionAt sectionFrom slotAt slotFrom u32At readTerm partOf linesAfter wordPart nibbleMask trailingZeros tableOf term-words.termWords term-words.wordsDown term-words.chainWord term-words.nibbleTable same readRange linesWith chainBound fromLines gathered scattered ones range-words.sentWords range-words.chainWords range-words.wordsDown range-words.lowerValue range-words.upperValue covers wishFrom overLines edge-words.wordsFrom edge-words.pairTable codesOf opCode codesAccepted
+examples = tt
+
+-- ---- what is read
+
+-- 'an empty stream gives the sheet of four zero bytes'
+pub empty-stream : readBack [] ≡ bytes (0 ∷ 0 ∷ 0 ∷ 0 ∷ [])
+unfolding streamVerdict itemsVerdict rests restsFrom sheetIn sectionsOf recordsOf render joined
+empty-stream = refl

@@ -1,0 +1,223 @@
+-- Items, there and back: the item of a record without fault is accepted and read as that record blanked, and an accepted item is
+-- that of the record it is read as. Assumes nothing.
+use Prim.Native.Nat.{ℕ, suc, zero-le, _+_, _*_, _≤_, _<_, _^_}
+use mathlib.Core.Path.{_≡_, refl, sym, ap, ap₂, _∙_, subst}
+use mathlib.Core.Bool.{Bool, true, false, _||_, true≢false}
+use mathlib.Core.List.{List, [], _∷_, _++_, map, flatten}
+use native.Mathlib.Nat.{not-suc-le-zero}
+use native.Mathlib.Omega.{arith}
+use borrow.Author.Tests.{lt-leb, le-ltb, ne-eqb, leb-false, ltb-false, eqb-false}
+use lib.Dec.{eqb, ltb, leb, leb→le, lit<}
+use lib.ListN.{length, getD, take, drop, replicate, length-append, length-drop, length-map, length-replicate}
+use lib.Seq.{take-at, drop-at}
+use Rattle.lines.proofs.Computed.{every-below}
+use Rattle.buffer.specs.Bytes.{Bytes, allWithin}
+use Rattle.buffer.specs.Verdict.{andThen, refuseIf}
+use Rattle.buffer.specs.declared.Verdict.the-variants.{Accepted}
+use Rattle.buffer.proofs.Faults.{andThen-accepted, andThen-both, refuseIf-accepted}
+use Rattle.buffer.proofs.Numbers.{bytes-nil, bytes-cons, bytes-append, bytes-drop}
+use Rattle.buffer.proofs.Within.{within-bytes}
+use Rattle.command.specs.Command.{selectOp}
+use Rattle.command.specs.Reading.{number, commandVerdict}
+use Rattle.sheet.specs.Sections.{sections, labelSize, mostOf, descriptionSize, recordSize, descriptionFault, slotOf, labelOf, descriptionOf}
+use Rattle.sheet.specs.Parsed.{Faultless}
+use Rattle.sheet.proofs.Bounds.{most-byte}
+use Rattle.compiler.specs.Items.{kindOf, addressOf, lengthsOf, chainsOf, chainsFrom, item, sizeOf, itemSize}
+use Rattle.compiler.proofs.ItemLaws.{chains-lengths, words-fit, item-length, address-small, chains-some}
+use Rattle.reader.specs.Addresses.{slotAt, sectionAt}
+use Rattle.reader.specs.Judging.{itemWords, descriptionRead, descriptionIn, firstVerdict, chainsVerdict, itemVerdict, stepSize}
+use Rattle.reader.specs.Back.{labelFor, recordIn}
+use Rattle.reader.specs.Blanked.{cutDescription, blankRecord}
+use Rattle.reader.proofs.Places.{slot-fits, slot-address, section-of-slot, slot-of-address}
+use Rattle.reader.proofs.Cutting.{step-known}
+use Rattle.reader.proofs.Ways.{Described, way}
+use Rattle.reader.proofs.Chains.{chains-accepted, chains-read, chains-number, chains-select, chains-past, chains-whole, chains-written}
+
+-- ---- labels
+
+pub label-length : (k slot : ℕ) → length (labelFor k slot) ≡ labelSize
+label-length k slot = refl
+
+pub label-plain : (k slot : ℕ) → allWithin 0x20 0x7E (labelFor k slot) ≡ true
+unfolding allWithin
+label-plain k slot = refl
+
+pub label-bytes : (k slot : ℕ) → Bytes (labelFor k slot)
+label-bytes k slot = within-bytes 0x20 0x7E (labelFor k slot) (lit< tt) (label-plain k slot)
+
+-- a record with such a label
+module _ (k slot : ℕ) (d : List ℕ) where
+  pub made-label : labelOf (slot ∷ (labelFor k slot ++ d)) ≡ labelFor k slot
+  made-label = take-at (labelFor k slot) d labelSize (label-length k slot)
+
+  pub made-description : descriptionOf (slot ∷ (labelFor k slot ++ d)) ≡ d
+  made-description = drop-at (labelFor k slot) d labelSize (label-length k slot)
+
+  pub made-length : length d ≡ descriptionSize k → length (slot ∷ (labelFor k slot ++ d)) ≡ recordSize k
+  made-length h = omega (arith, length-append (labelFor k slot) d, label-length k slot)
+
+-- ---- how many chains
+
+few-chains : (k : ℕ) → k < sections → length (lengthsOf k) ≤ 255
+unfolding lengthsOf kindOf
+few-chains k h = leb→le _ _ (every-below sections (λ k. leb (length (lengthsOf k)) 255) tt k h)
+
+chains-count : (k : ℕ) (d : List ℕ) → length (chainsOf k d) ≡ length (lengthsOf k)
+chains-count k d = sym (length-map (chainsOf k d) length) ∙ ap length (chains-lengths k d)
+
+-- ---- what makes an item accepted
+
+item-judged : (low at : ℕ) (s : List ℕ) → sectionAt (number s) < sections → low ≤ number s
+    → chainsVerdict (lengthsOf (sectionAt (number s))) (number s) at s ≡ Accepted → 0 < length (descriptionIn s) → itemVerdict low at s ≡ Accepted
+unfolding itemVerdict firstVerdict
+item-judged low at s known rising chains some =
+    let k = sectionAt (number s) in
+    let select : commandVerdict selectOp at s ≡ Accepted = chains-select (lengthsOf k) (number s) at s (chains-some k known) chains in
+    let due : refuseIf (leb sections k || ltb (number s) low) 15 at ≡ Accepted = simp (lt-leb sections k known, le-ltb (number s) low rising) in
+    let read : refuseIf (eqb (length (descriptionIn s)) 0) 16 at ≡ Accepted = simp (ne-eqb (length (descriptionIn s)) 0 (λ e. omega arith)) in
+    andThen-both _ _ (andThen-both _ _ select due) (andThen-both _ _ chains read)
+
+-- ---- there
+
+module _ (k floor : ℕ) (r rest : List ℕ) (hk : k < sections) (f : Faultless k floor r) (b : Bytes r) where
+  fits : addressOf k (slotOf r) < 0x80
+  fits = address-small k (slotOf r) hk (f .slot-fits)
+
+  pub item-number : number (item k r ++ rest) ≡ addressOf k (slotOf r)
+  unfolding item
+  item-number = chains-number (addressOf k (slotOf r)) (chainsOf k (descriptionOf r)) rest (omega (arith, chains-count k (descriptionOf r), chains-some k hk)) (omega (arith, fits))
+
+  pub item-section : sectionAt (number (item k r ++ rest)) ≡ k
+  item-section = ap sectionAt item-number ∙ section-of-slot k (slotOf r) hk (f .slot-fits)
+
+  pub item-slot : slotAt k (number (item k r ++ rest)) ≡ slotOf r
+  item-slot = ap (slotAt k) item-number ∙ slot-of-address k (slotOf r) hk (f .slot-fits)
+
+  pub item-step : stepSize (item k r ++ rest) ≡ itemSize k
+  item-step = step-known (item k r ++ rest) (rw item-section hk) ∙ ap itemSize item-section
+
+  pub item-past : drop (stepSize (item k r ++ rest)) (item k r ++ rest) ≡ rest
+  item-past = rw item-step (drop-at (item k r) rest (itemSize k) (item-length k r))
+
+  whole : length (descriptionOf r) ≡ descriptionSize k
+  whole = omega (arith, length-drop (1 + labelSize) r, f .whole)
+
+  words : itemWords (lengthsOf k) (item k r ++ rest) ≡ flatten (chainsOf k (descriptionOf r))
+  unfolding item
+  words = rw (← chains-lengths k (descriptionOf r)) (chains-read (addressOf k (slotOf r)) (chainsOf k (descriptionOf r)) rest (words-fit k (descriptionOf r)))
+
+  pub item-description : descriptionIn (item k r ++ rest) ≡ cutDescription k (descriptionOf r)
+  unfolding descriptionIn
+  item-description =
+      rw (item-section, words) (way k hk .back (descriptionOf r) (bytes-drop (1 + labelSize) r b) whole (f .description-fits))
+
+  pub item-record : recordIn (item k r ++ rest) ≡ blankRecord k r
+  unfolding recordIn blankRecord
+  item-record = rw (item-section, item-slot, item-description)
+
+  pub item-accepted : (low at : ℕ) → low ≤ addressOf k (slotOf r) → itemVerdict low at (item k r ++ rest) ≡ Accepted
+  unfolding item
+  item-accepted low at h =
+      let chains = chainsOf k (descriptionOf r) in
+      let few : addressOf k (slotOf r) + length chains ≤ 2 ^ 32 = omega (arith, fits, chains-count k (descriptionOf r), few-chains k hk) in
+      let some : 0 < length (descriptionIn (item k r ++ rest)) =
+      rw (item-description, way k hk .cut-whole (descriptionOf r) whole) (way k hk .some) in
+      item-judged low at (item k r ++ rest) (rw item-section hk) (rw item-number h)
+      (rw (item-section, item-number, ← chains-lengths k (descriptionOf r)) (chains-accepted (addressOf k (slotOf r)) at chains rest few)) some
+
+-- ---- and back
+
+-- an item's first select that is accepted
+pub first-accepted : (low at : ℕ) (s : List ℕ) → firstVerdict low at s ≡ Accepted → (sectionAt (number s) < sections) × (low ≤ number s)
+unfolding firstVerdict
+first-accepted low at s e =
+    let unknown = leb sections (sectionAt (number s)) in
+    let below = ltb (number s) low in
+    let due = neither unknown below (refuseIf-accepted (unknown || below) 15 at (andThen-accepted (commandVerdict selectOp at s) _ e .1)) in
+    (leb-false sections (sectionAt (number s)) (due .0), ltb-false (number s) low (due .1))
+  where
+    neither : (a b : Bool) → a || b ≡ false → (a ≡ false) × (b ≡ false)
+    neither true b e = absurd (true≢false e)
+    neither false b e = (refl, e)
+
+module _ (low at : ℕ) (s : List ℕ) (e : itemVerdict low at s ≡ Accepted) where
+  first-ok : (sectionAt (number s) < sections) × (low ≤ number s)
+  unfolding itemVerdict
+  first-ok = first-accepted low at s (andThen-accepted (firstVerdict low at s) _ e .0)
+
+  later-ok : (chainsVerdict (lengthsOf (sectionAt (number s))) (number s) at s ≡ Accepted) × (0 < length (descriptionIn s))
+  unfolding itemVerdict
+  later-ok =
+      let p = andThen-accepted (chainsVerdict (lengthsOf (sectionAt (number s))) (number s) at s) _ (andThen-accepted (firstVerdict low at s) _ e .1) in
+      let q = eqb-false (length (descriptionIn s)) 0 (refuseIf-accepted (eqb (length (descriptionIn s)) 0) 16 at (p .1)) in
+      (p .0, positive (length (descriptionIn s)) q)
+    where
+      positive : (n : ℕ) → (n ≡ 0 → ⊥) → 0 < n
+      positive n h = omega arith
+
+  pub item-known : sectionAt (number s) < sections
+  item-known = first-ok .0
+
+  pub item-rising : low ≤ number s
+  item-rising = first-ok .1
+
+  pub item-whole : itemSize (sectionAt (number s)) ≤ length s
+  unfolding itemSize
+  item-whole = chains-whole (lengthsOf (sectionAt (number s))) (number s) at s (later-ok .0)
+
+  described : Described (sectionAt (number s)) (itemWords (lengthsOf (sectionAt (number s))) s) (descriptionIn s)
+  unfolding descriptionIn
+  described = way (sectionAt (number s)) item-known .exactly (itemWords (lengthsOf (sectionAt (number s))) s) (later-ok .1)
+
+  pub record-bytes : Bytes (recordIn s)
+  unfolding recordIn
+  record-bytes =
+      let k = sectionAt (number s) in
+      let slot = slotAt k (number s) in
+      bytes-cons slot (labelFor k slot ++ descriptionIn s) (omega (arith, slot-fits (number s) item-known, most-byte k))
+      (bytes-append (labelFor k slot) (descriptionIn s) (label-bytes k slot) (described .are-bytes))
+
+  pub record-faultless : (floor : ℕ) → floor ≤ slotAt (sectionAt (number s)) (number s) → Faultless (sectionAt (number s)) floor (recordIn s)
+  unfolding recordIn
+  record-faultless floor h =
+      let k = sectionAt (number s) in
+      let slot = slotAt k (number s) in
+      record {
+        whole = made-length k slot (descriptionIn s) (described .whole);
+        slot-fits = slot-fits (number s) item-known;
+        rising = h;
+        label-fits = ap (allWithin 0x20 0x7E) (made-label k slot (descriptionIn s)) ∙ label-plain k slot;
+        description-fits = ap (descriptionFault k) (made-description k slot (descriptionIn s)) ∙ described .faultless;
+      }
+
+  pub item-written : Bytes s → take (itemSize (sectionAt (number s))) s ≡ item (sectionAt (number s)) (recordIn s)
+  unfolding recordIn item itemSize
+  item-written b =
+      let k = sectionAt (number s) in
+      let lengths = chains-lengths k (descriptionIn s) in
+      let chains = rw (← lengths) at (later-ok .0) in
+      let words = rw (← lengths) at (described .written) in
+      rw (slot-address (number s) item-known, made-description k (slotAt k (number s)) (descriptionIn s), ← lengths)
+      (chains-written (chainsOf k (descriptionIn s)) (number s) at s b chains words)
+
+-- what an accepted item tells of the section that has it
+pub record Read (k : ℕ) (s : List ℕ) : Type 0 where
+  pub slot-below : slotOf (recordIn s) < mostOf k
+  pub address-is : addressOf k (slotOf (recordIn s)) ≡ number s
+  pub good : (floor : ℕ) → floor ≤ slotOf (recordIn s) → Faultless k floor (recordIn s)
+  pub are-bytes : Bytes (recordIn s)
+  pub there : itemSize k ≤ length s
+  pub written : Bytes s → take (itemSize k) s ≡ item k (recordIn s)
+
+pub item-read : (low at : ℕ) (s : List ℕ) → itemVerdict low at s ≡ Accepted → (k : ℕ) → sectionAt (number s) ≡ k → Read k s
+unfolding recordIn
+item-read low at s e k q =
+    subst (λ (j : ℕ). Read j s) q
+    (record {
+      slot-below = slot-fits (number s) (item-known low at s e);
+      address-is = slot-address (number s) (item-known low at s e);
+      good = record-faultless low at s e;
+      are-bytes = record-bytes low at s e;
+      there = item-whole low at s e;
+      written = item-written low at s e;
+    })

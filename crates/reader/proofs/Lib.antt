@@ -1,0 +1,10 @@
+pub mod Places
+pub mod Cutting
+pub mod Ways
+pub mod Chains
+pub mod Items
+pub mod Trip
+pub mod Again
+pub mod Theorems
+pub mod Enough
+pub mod Examples

@@ -1,0 +1,4 @@
+pub mod Addresses
+pub mod Judging
+pub mod Back
+pub mod Blanked

@@ -1,0 +1,1 @@
+// The reader: from commands back to the set-up sheet that they load.
