@@ -31,9 +31,9 @@ fn put_section(out: &mut [u8], sheet: &[u8], section: usize) -> Outcome
     requires { ⌜ (verdict (now sheet) ≡ Accepted) × (section < sections) ⌝ }
     ensures { λ r. ⌜ Delivered (bytes (items section (getD (parse (now (sheet .entry))) section []))) (now (out .entry)) r (now (out .exit)) ⌝ }
 {
-    let needed = section_size(sheet, section);
-    if out.len() < needed {
-        return Outcome::Refused(OUTPUT_TOO_SHORT, needed);
+    let size = section_size(sheet, section);
+    if out.len() < size {
+        return Outcome::Refused(OUTPUT_TOO_SHORT, size);
     }
     let part = sheet::section_unchecked(sheet, section);
     let count = sheet::record_count(part, section);
@@ -44,7 +44,7 @@ fn put_section(out: &mut [u8], sheet: &[u8], section: usize) -> Outcome
         at += item_size(section);
         i += 1;
     }
-    Outcome::Done(needed)
+    Outcome::Done(size)
 }
 
 // How many bytes all the items of a sheet take up.

@@ -33,12 +33,12 @@ module _ (s : List ℕ) (ok : verdict s ≡ Accepted) (k : ℕ) (h : k < section
   found i r ep er few = er ∙ ap (λ (x : List ℕ). recordAt k x i) ep ∙ part-record s ok k h i few
 
 abbrev Inv-loop : tie.InvT-loop
-Inv-loop out₀ sheet section needed part count at₀ i₀ out at i =
+Inv-loop out₀ sheet section size part count at₀ i₀ out at i =
     (i ≤ count)
     × Pending out₀ (write 0 (items section (getD (parse sheet) section [])) out₀) at (items section (drop i (getD (parse sheet) section []))) out
 
 abbrev μ-loop : tie.MeasureT-loop
-μ-loop out₀ sheet section needed part count at₀ i₀ out at i = count - i
+μ-loop out₀ sheet section size part count at₀ i₀ out at i = count - i
 
 section-size-requires : tie.Need-section-size-requires Inv-loop μ-loop
 section-size-requires c κs = search needs
