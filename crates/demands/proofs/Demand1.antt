@@ -1,14 +1,12 @@
 -- DEMAND 1. "Any bytes may be handed in as a sheet, a command stream, chain words or a pair of sheets": no public call has a
 -- `requires`, and each equals a definition that is total. What follows restates, over those definitions, the sentence on refusals.
 -- Assumes nothing.
-use Prim.Native.Nat.{ℕ, _≤_, _<_}
-use mathlib.Core.Path.{_≡_, refl, sym, ap, _∙_}
+use Prim.Native.Nat.{ℕ}
+use mathlib.Core.Path.{_≡_, refl, ap, _∙_}
 use mathlib.Core.Bool.{Bool}
 use mathlib.Core.List.{List, []}
-use native.Mathlib.Omega.{arith}
 use lib.ListN.{length, drop}
-use Rattle.buffer.specs.Room.{Reply, Delivered, fill, outcome, unless}
-use Rattle.buffer.specs.Verdict.{outcomeNumber, outcomePlace}
+use Rattle.buffer.specs.Room.{Reply, Delivered}
 use Rattle.buffer.specs.declared.Outcome.{Outcome}
 use Rattle.buffer.specs.declared.Outcome.the-variants as Outcome
 use Rattle.buffer.specs.declared.Verdict.the-variants as Verdict
@@ -24,19 +22,19 @@ use Rattle.reader.specs.Judging.{streamVerdict}
 use Rattle.reader.specs.Back.{readBack}
 use Rattle.notice.specs.declared.Noticed.{Noticed}
 use Rattle.notice.specs.declared.Noticed.the-variants as Noticed
-use Rattle.notice.specs.Notice.{noticeText, answerOf, noticedNumber, noticedWhich, noticedPlace, NoticeGiven}
+use Rattle.notice.specs.Notice.{noticeText, answerOf, noticedNumber, NoticeGiven}
 
 -- ---- "Bad input gets the refusal our rules fix, with its number and place"
 
 -- a refused sheet: the compiler answers the check's number and place, whatever the room
 pub compile-answers-the-refusal : (sheet room room′ : List ℕ) (r : Outcome) (number place : ℕ) → verdict sheet ≡ Verdict.Refused number place
     → Delivered (compiled sheet) room r room′ → r ≡ Outcome.Refused number place
-compile-answers-the-refusal s room room′ r n p e d = d .answer ∙ ap (λ v. outcome (unless v _) (length room)) e
+compile-answers-the-refusal s room room′ r n p e d = let d′ = rw e at d in d′ .answer
 
 -- a refused stream: the reader answers the judge's
 pub read-answers-the-refusal : (stream room room′ : List ℕ) (r : Outcome) (number place : ℕ) → streamVerdict stream ≡ Verdict.Refused number place
     → Delivered (readBack stream) room r room′ → r ≡ Outcome.Refused number place
-read-answers-the-refusal s room room′ r n p e d = d .answer ∙ ap (λ v. outcome (unless v _) (length room)) e
+read-answers-the-refusal s room room′ r n p e d = let d′ = rw e at d in d′ .answer
 
 -- a pair: "the old one speaks first and the answer says which"
 pub notice-answers-the-old : (old new out out′ : List ℕ) (r : Noticed) (number place : ℕ) → verdict old ≡ Verdict.Refused number place

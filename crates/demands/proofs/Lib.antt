@@ -1,4 +1,6 @@
 pub mod BenchHolds
+pub mod Demand1
+pub mod Demand2
 pub mod Tellings
 pub mod SlotLines
 pub mod Demand3
