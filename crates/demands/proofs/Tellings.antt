@@ -40,18 +40,18 @@ finding-told (suc (suc (suc k))) d e h = absurd (omega arith)
 
 -- ---- acceptance
 
-field-small : (d : List ℕ) (i : ℕ) → Bytes d → fieldOf d i < 2 ^ 32
+pub field-small : (d : List ℕ) (i : ℕ) → Bytes d → fieldOf d i < 2 ^ 32
 field-small d i b = u32-small d _ b
 
 clear : (b : Bool) → faultIf (not b) 9 0 ≡ 0 → b ≡ true
 clear true e = refl
 clear false e = absurd (omega arith)
 
-range-accepted : (d : List ℕ) → Bytes d → descriptionFault 1 d ≡ 0 → RangeAccepted (fieldOf d 0) (fieldOf d 1) (fieldOf d 2)
+pub range-accepted : (d : List ℕ) → Bytes d → descriptionFault 1 d ≡ 0 → RangeAccepted (fieldOf d 0) (fieldOf d 1) (fieldOf d 2)
 unfolding descriptionFault rowOf rangeFaultOf
 range-accepted d b e = fault-0 (fieldOf d 0) (fieldOf d 1) (fieldOf d 2) (field-small d 2 b) .0 e
 
-edge-accepted : (d : List ℕ) → Bytes d → descriptionFault 2 d ≡ 0 → Accepted (fieldOf d 0) (fieldOf d 1) (fieldOf d 2)
+pub edge-accepted : (d : List ℕ) → Bytes d → descriptionFault 2 d ≡ 0 → Accepted (fieldOf d 0) (fieldOf d 1) (fieldOf d 2)
 unfolding descriptionFault rowOf edgeFaultOf
 edge-accepted d b e =
     record {
