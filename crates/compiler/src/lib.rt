@@ -10,6 +10,9 @@ use stream::put_stream;
 mod items;
 mod stream;
 
+// The most bytes that the commands of a sheet take up (proofs/Theorems, at-most).
+pub const MOST_BYTES: usize = 2360;
+
 // The commands of a sheet, written at the start of `out`.
 pub fn compile(sheet: &[u8], out: &mut [u8]) -> Outcome
     ensures { λ r. ⌜ Delivered (compiled (now (sheet .entry))) (now (out .entry)) r (now (out .exit)) ⌝ }

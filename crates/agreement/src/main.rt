@@ -1,0 +1,19 @@
+// The compiler's commands beside those of the second program (listings/), case by case, over the file `cases`.
+// Promises: it is safe and ends; what it says, how many cases there are and how many agree, is compared with the stored output.
+// Rests on: compiler (compile), check (bytes compared), os, io and libc (the file and the output).
+use libc::STDOUT_FILENO;
+
+mod cases;
+mod tally;
+
+fn main() {
+    let path = b"cases";
+    let fd = os::open_read(path);
+    if fd < 0 {
+        os::fail(path);
+        return;
+    }
+    let tally = tally::compare_all(fd);
+    libc::close(fd);
+    tally::say(tally, STDOUT_FILENO);
+}
