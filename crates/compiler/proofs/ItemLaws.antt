@@ -113,6 +113,19 @@ pub item-length : (k : ℕ) (r : List ℕ) → length (item k r) ≡ itemSize k
 unfolding item itemSize
 item-length k r = chains-length (addressOf k (slotOf r)) (chainsOf k (descriptionOf r)) ∙ ap sizeOf (chains-lengths k (descriptionOf r))
 
+-- no item is long
+pub item-bound : (k : ℕ) → itemSize k ≤ 1024
+unfolding itemSize lengthsOf sizeOf
+item-bound k = of-kind (λ x. sizeOf (x .lengths) ≤ 1024) (lit≤ tt, (lit≤ tt, (lit≤ tt, (lit≤ tt, tt)))) (lit≤ tt) k
+
+-- the sizes as a table, by section
+pub item-sizes : (k : ℕ) → getD (25 ∷ 170 ∷ 45 ∷ 35 ∷ []) k 0 ≡ itemSize k
+unfolding itemSize lengthsOf kindOf sizeOf
+item-sizes k = List·getD-map (λ (x : Kind). sizeOf (x .lengths)) kinds k none
+
+pub item-size-past : (k : ℕ) → sections ≤ k → itemSize k ≡ 0
+item-size-past k h = sym (item-sizes k) ∙ List·getD-eq-default (25 ∷ 170 ∷ 45 ∷ 35 ∷ []) 0 {n = k} h
+
 -- ---- addresses
 
 pub address-small : (k slot : ℕ) → k < sections → slot < mostOf k → addressOf k slot < 128
@@ -138,7 +151,7 @@ placeIn (x ∷ xs) k = cond (eqb x k) 0 (suc (placeIn xs k))
 abbrev pub placeOf : ℕ → ℕ
 placeOf k = placeIn sendingOrder k
 
--- every section is sent
+-- each has its place there
 abbrev sentOnce : ℕ → Bool
 sentOnce k = ltb (placeOf k) (length sendingOrder) && eqb (sentAs (placeOf k)) k
 
@@ -150,6 +163,10 @@ place-below k h = ltb→lt _ _ (and-left (ltb (placeOf k) (length sendingOrder))
 
 pub place-sent : (k : ℕ) → k < sections → sentAs (placeOf k) ≡ k
 place-sent k h = eqb→eq _ _ (and-right (ltb (placeOf k) (length sendingOrder)) (eqb (sentAs (placeOf k)) k) (sent-once k h))
+
+-- only sections of the sheet are sent
+pub sent-known : (i : ℕ) → i < length sendingOrder → sentAs i < sections
+sent-known i h = ltb→lt _ _ (every-below (length sendingOrder) (λ i. ltb (sentAs i) sections) tt i h)
 
 -- the item of slot a in the section sent as number i goes before that of slot b in the section sent as number j
 abbrev before : (i a j b : ℕ) → Bool
@@ -189,19 +206,6 @@ pub address-later : (i j a b : ℕ) → i < j → j < length sendingOrder → a 
 address-later i j a b hij hj ha hb =
     by-test (before i a j b) (addressOf (sentAs i) a + length (lengthsOf (sentAs i))) (addressOf (sentAs j) b) (simp (lt-ltb i j hij))
     (risen i a j b (omega arith) ha hj hb)
-
--- no item is long
-pub item-bound : (k : ℕ) → itemSize k ≤ 1024
-unfolding itemSize lengthsOf sizeOf
-item-bound k = of-kind (λ x. sizeOf (x .lengths) ≤ 1024) (lit≤ tt, (lit≤ tt, (lit≤ tt, (lit≤ tt, tt)))) (lit≤ tt) k
-
--- the sizes as a table, by section
-pub item-sizes : (k : ℕ) → getD (25 ∷ 170 ∷ 45 ∷ 35 ∷ []) k 0 ≡ itemSize k
-unfolding itemSize lengthsOf kindOf sizeOf
-item-sizes k = List·getD-map (λ (x : Kind). sizeOf (x .lengths)) kinds k none
-
-pub item-size-past : (k : ℕ) → sections ≤ k → itemSize k ≡ 0
-item-size-past k h = sym (item-sizes k) ∙ List·getD-eq-default (25 ∷ 170 ∷ 45 ∷ 35 ∷ []) 0 {n = k} h
 
 -- ---- the item of a record, kind by kind
 
@@ -249,7 +253,3 @@ section-known k slot h =
       | yes l ↦ l
       | no n ↦ absurd (omega (arith, rw (List·getD-eq-default rows (row 0 0 noFault) {n = k} (omega arith)) at h))
     ]
-
--- only sections of the sheet are sent
-pub sent-known : (i : ℕ) → i < length sendingOrder → sentAs i < sections
-sent-known i h = ltb→lt _ _ (every-below (length sendingOrder) (λ i. ltb (sentAs i) sections) tt i h)
