@@ -24,7 +24,7 @@ const ITEM_SIZE: [usize; SECTIONS] = [25, 170, 45, 35];
 const PAIRED_CHAIN: usize = 85;
 
 // How many bytes an item of a section takes up; none for a section that no sheet has.
-pub(crate) fn item_size(section: usize) -> usize
+pub fn item_size(section: usize) -> usize
     ensures { λ r. ⌜ r ≡ itemSize section ⌝ }
 {
     if section < SECTIONS {

@@ -10,6 +10,8 @@ use stream::put_stream;
 mod items;
 mod stream;
 
+pub use items::item_size;
+
 // The most bytes that the commands of a sheet take up (proofs/Theorems, at-most).
 pub const MOST_BYTES: usize = 2360;
 

@@ -1,32 +1,30 @@
 -- Read and compiled again: an accepted stream gives an accepted sheet, and that sheet's commands are the stream. Its items come by
 -- rising address, so taking them section by section in sending order changes nothing. Assumes nothing.
-use Prim.Native.Nat.{ℕ, zero, suc, zero-le, _+_, _*_, _≤_, _<_}
+use Prim.Native.Nat.{ℕ, zero, suc, zero-le, _+_, _≤_, _<_}
 use mathlib.Core.Path.{_≡_, refl, sym, ap, ap₂, _∙_, subst}
-use mathlib.Core.Bool.{cond}
 use mathlib.Core.List.{List, [], _∷_, _++_, append-assoc, List·Memᴰ, List·Memᴰ·head, List·Memᴰ·tail, List·Memᴰ·not-nil, List·Memᴰ·cases-cons}
 use mathlib.Core.Logic.{⊎-elim}
 use native.Mathlib.Decide.{decLt, ℕ-discrete}
 use native.Mathlib.Nat.{add-zero, zero-add, not-suc-le-zero, le-refl}
 use native.Mathlib.Omega.{arith}
 use borrow.Author.Tests.{eq-eqb, ne-eqb}
-use lib.Dec.{eqb}
-use lib.ListN.{length, getD, take, drop, take-append-drop, List·getD-eq-default}
+use lib.ListN.{length, getD, take, take-append-drop, List·getD-eq-default}
 use Rattle.buffer.specs.Bytes.{Bytes}
 use Rattle.buffer.specs.declared.Verdict.the-variants.{Accepted}
 use Rattle.buffer.proofs.Faults.{andThen-accepted}
 use Rattle.buffer.proofs.Numbers.{bytes-nil, bytes-drop}
 use Rattle.command.specs.Reading.{number}
 use Rattle.sheet.specs.Sections.{sections, mostOf, slotOf}
-use Rattle.sheet.specs.Parsed.{joined, render, Ordered, Sections, WellFormed}
+use Rattle.sheet.specs.Parsed.{render, Ordered, Sections, WellFormed}
 use Rattle.sheet.proofs.Descriptions.{bytes-rendered}
-use Rattle.compiler.specs.Items.{addressOf, item, itemSize}
-use Rattle.compiler.specs.Stream.{items, sendingOrder, sent, streamOf}
-use Rattle.reader.specs.Addresses.{slotAt, sectionAt}
+use Rattle.compiler.specs.Items.{addressOf, item}
+use Rattle.compiler.specs.Stream.{items, sent, streamOf}
+use Rattle.reader.specs.Addresses.{sectionAt}
 use Rattle.reader.specs.Judging.{itemVerdict, stepSize, rests, itemsVerdict, streamVerdict}
 use Rattle.reader.specs.Back.{recordIn, recordsOf, sectionsOf, sheetIn}
-use Rattle.reader.proofs.Places.{slot-fits, slot-address, slots-rise, Clear, Ranked, sending-ranked, sent-all}
+use Rattle.reader.proofs.Places.{slots-rise, Clear, Ranked, sending-ranked, sent-all}
 use Rattle.reader.proofs.Cutting.{step-known, rests-none, rests-some, by-rests}
-use Rattle.reader.proofs.Items.{item-known, item-rising, Read, item-read}
+use Rattle.reader.proofs.Items.{item-known, item-rising, item-read}
 use Rattle.reader.proofs.Trip.{AllBytes}
 
 -- ---- accepted items: their addresses rise, from `low` on
@@ -227,13 +225,14 @@ module _ (s : List ℕ) (e : streamVerdict s ≡ Accepted) where
       ∙ gather sending-ranked 0 (rests s) rising (λ k slot h m g. sent-all k h)
       ∙ pieces-whole s b 0 0 e
 
-  ordered : (k : ℕ) → k < sections → Ordered k 0 (recordsOf k (rests s))
-  ordered k h = rising-ordered k h rising 0 (λ slot m g. zero-le)
+  -- the records of a section are in order
+  pub again-ordered : (k : ℕ) → k < sections → Ordered k 0 (recordsOf k (rests s))
+  again-ordered k h = rising-ordered k h rising 0 (λ slot m g. zero-le)
 
   -- that sheet is well formed
   pub again-well-formed : WellFormed (sheetIn s)
   unfolding sheetIn
-  again-well-formed = record { all = read-count (rests s) sections 0; good = read-good (rests s) sections 0 ordered }
+  again-well-formed = record { all = read-count (rests s) sections 0; good = read-good (rests s) sections 0 again-ordered }
 
   -- and consists of bytes
   pub again-bytes : Bytes (render (sheetIn s))

@@ -11,7 +11,7 @@ use lib.Dec.{eqb}
 use lib.ListN.{length, getD, take, drop, length-drop}
 use lib.Seq.{take-add, take-append-seam, drop-append-seam, take-at, drop-at}
 use Rattle.buffer.specs.Bytes.{Bytes}
-use Rattle.buffer.specs.Verdict.{andThen, refuseIf}
+use Rattle.buffer.specs.Verdict.{refuseIf}
 use Rattle.buffer.specs.declared.Verdict.the-variants.{Accepted}
 use Rattle.buffer.proofs.Faults.{andThen-accepted, andThen-both, refuseIf-accepted}
 use Rattle.buffer.proofs.Numbers.{bytes-drop}

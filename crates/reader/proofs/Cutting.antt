@@ -1,5 +1,5 @@
 -- A stream cut into items: what is left behind each of them, and induction item by item. Assumes nothing.
-use Prim.Native.Nat.{ℕ, zero, suc, zero-le, _-_, _≤_, _<_}
+use Prim.Native.Nat.{ℕ, zero, suc, zero-le, _≤_, _<_}
 use mathlib.Core.Path.{_≡_, refl, ap}
 use mathlib.Core.List.{List, [], _∷_}
 use native.Mathlib.Decide.{decLt}
@@ -26,7 +26,7 @@ module _ (s : List ℕ) where
   unfolding stepSize
   step-known h = simp (lt-ltb (sectionAt (number s)) sections h)
 
-  step-unknown : sections ≤ sectionAt (number s) → stepSize s ≡ 5
+  pub step-unknown : sections ≤ sectionAt (number s) → stepSize s ≡ 5
   unfolding stepSize
   step-unknown h = simp (le-ltb (sectionAt (number s)) sections h)
 

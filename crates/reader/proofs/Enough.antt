@@ -1,32 +1,32 @@
 -- How much of a stream the reader looks at: an accepted stream has at most 2,360 bytes, and of any other one whole command more
 -- settles the refusal. Assumes nothing.
-use Prim.Native.Nat.{ℕ, zero, suc, zero-le, _+_, _-_, _*_, _≤_, _<_}
-use mathlib.Core.Path.{_≡_, refl, sym, ap, ap₂, _∙_, subst}
-use mathlib.Core.Bool.{Bool, true, false, not, cond, _||_}
+use Prim.Native.Nat.{ℕ, zero, suc, _+_, _*_, _≤_, _<_, _-_}
+use mathlib.Core.Path.{_≡_, refl, sym, ap, ap₂, _∙_}
+use mathlib.Core.Bool.{Bool, not, cond}
 use mathlib.Core.List.{List, [], _∷_, _++_}
 use native.Mathlib.Decide.{decLt, decLe}
-use native.Mathlib.Nat.{not-suc-le-zero, le-refl}
+use native.Mathlib.Nat.{le-refl}
 use native.Mathlib.Omega.{arith}
-use borrow.Author.Tests.{lt-ltb, le-ltb, le-leb, lt-leb, leb-false, ltb-false}
-use lib.Dec.{eqb, ltb, leb}
-use lib.ListN.{length, getD, take, drop, length-take, length-drop, List·getD-eq-default}
-use lib.Seq.{getD-take, take-all, take-nil, drop-nil}
+use borrow.Author.Tests.{lt-ltb, le-ltb}
+use lib.Dec.{eqb, ltb}
+use lib.ListN.{length, take, drop, length-take, length-drop}
+use lib.Seq.{getD-take, take-all, take-nil}
 use Rattle.buffer.specs.Verdict.{andThen, refuseIf}
-use Rattle.buffer.specs.Room.{bytes, refusal, unless}
+use Rattle.buffer.specs.Room.{bytes, unless}
 use Rattle.buffer.specs.declared.Verdict.{Verdict}
 use Rattle.buffer.specs.declared.Verdict.the-variants.{Accepted, Refused}
 use Rattle.buffer.proofs.Faults.{andThen-accepted, andThen-assoc}
 use Rattle.buffer.proofs.Numbers.{u32-take}
 use Rattle.command.specs.Command.{selectOp, loadOp}
-use Rattle.command.specs.Reading.{opcode, number, commandVerdict, loadsVerdict, wordsIn}
+use Rattle.command.specs.Reading.{number, commandVerdict, loadsVerdict, wordsIn}
 use Rattle.sheet.specs.Sections.{sections, rowOf, mostOf}
 use Rattle.sheet.specs.Parsed.{render}
-use Rattle.compiler.specs.Items.{kind, kinds, kindOf, addressOf, lengthsOf, sizeOf, itemSize}
+use Rattle.compiler.specs.Items.{kindOf, addressOf, lengthsOf, sizeOf, itemSize}
 use Rattle.reader.specs.Addresses.{slotFrom, slotAt, sectionFrom, sectionAt}
-use Rattle.reader.specs.Judging.{itemWords, descriptionRead, descriptionIn, firstVerdict, chainsVerdict, itemVerdict, stepSize, rests, itemsVerdict, streamVerdict}
+use Rattle.reader.specs.Judging.{itemWords, descriptionIn, firstVerdict, chainsVerdict, itemVerdict, stepSize, rests, itemsVerdict, streamVerdict}
 use Rattle.reader.specs.Back.{sheetIn, readBack}
 use Rattle.reader.proofs.Places.{known-small}
-use Rattle.reader.proofs.Cutting.{step-known, step-positive, rests-none, rests-some, by-rests}
+use Rattle.reader.proofs.Cutting.{step-known, rests-none, rests-some, by-rests}
 use Rattle.reader.proofs.Items.{first-accepted, item-known, item-rising}
 
 -- ---- what the first n bytes settle

@@ -10,7 +10,7 @@ use Rattle.lines.specs.Line.{overLines, fromLines}
 use Rattle.lines.specs.Gather.{gathered, scattered}
 use Rattle.lines.specs.Same.{same}
 use Rattle.lut.specs.Table.{tableOf}
-use Rattle.buffer.specs.Bytes.{u32At, u32Bytes}
+use Rattle.buffer.specs.Bytes.{u32At}
 use Rattle.buffer.specs.Room.{bytes}
 use Rattle.buffer.specs.declared.Verdict.{Verdict}
 use Rattle.buffer.specs.declared.Verdict.the-variants.{Accepted, Refused}
@@ -30,7 +30,7 @@ use Rattle.sheet.specs.Parsed.{joined, render}
 use Rattle.compiler.specs.Items.{kindOf, addressOf, lengthsOf, sizeOf, itemSize}
 use Rattle.reader.specs.Addresses.{slotFrom, slotAt, sectionFrom, sectionAt}
 use Rattle.reader.specs.Judging.{itemWords, descriptionRead, descriptionIn, firstVerdict, chainsVerdict, itemVerdict, stepSize, restsFrom, rests, itemsVerdict, streamVerdict}
-use Rattle.reader.specs.Back.{recordIn, recordsOf, sectionsOf, sheetIn, readBack}
+use Rattle.reader.specs.Back.{recordsOf, sectionsOf, sheetIn, readBack}
 use Rattle.reader.proofs.Cutting.{rests-some}
 
 -- ---- any stream of 1 to 4 bytes: 13 at 0

@@ -1,37 +1,36 @@
 -- Items, there and back: the item of a record without fault is accepted and read as that record blanked, and an accepted item is
 -- that of the record it is read as. Assumes nothing.
-use Prim.Native.Nat.{ℕ, suc, zero-le, _+_, _*_, _≤_, _<_, _^_}
-use mathlib.Core.Path.{_≡_, refl, sym, ap, ap₂, _∙_, subst}
+use Prim.Native.Nat.{ℕ, _+_, _≤_, _<_, _^_}
+use mathlib.Core.Path.{_≡_, refl, sym, ap, _∙_, subst}
 use mathlib.Core.Bool.{Bool, true, false, _||_, true≢false}
-use mathlib.Core.List.{List, [], _∷_, _++_, map, flatten}
-use native.Mathlib.Nat.{not-suc-le-zero}
+use mathlib.Core.List.{List, _∷_, _++_, flatten}
 use native.Mathlib.Omega.{arith}
 use borrow.Author.Tests.{lt-leb, le-ltb, ne-eqb, leb-false, ltb-false, eqb-false}
 use lib.Dec.{eqb, ltb, leb, leb→le, lit<}
-use lib.ListN.{length, getD, take, drop, replicate, length-append, length-drop, length-map, length-replicate}
+use lib.ListN.{length, take, drop, length-append, length-drop, length-map}
 use lib.Seq.{take-at, drop-at}
 use Rattle.lines.proofs.Computed.{every-below}
 use Rattle.buffer.specs.Bytes.{Bytes, allWithin}
-use Rattle.buffer.specs.Verdict.{andThen, refuseIf}
+use Rattle.buffer.specs.Verdict.{refuseIf}
 use Rattle.buffer.specs.declared.Verdict.the-variants.{Accepted}
 use Rattle.buffer.proofs.Faults.{andThen-accepted, andThen-both, refuseIf-accepted}
-use Rattle.buffer.proofs.Numbers.{bytes-nil, bytes-cons, bytes-append, bytes-drop}
+use Rattle.buffer.proofs.Numbers.{bytes-cons, bytes-append, bytes-drop}
 use Rattle.buffer.proofs.Within.{within-bytes}
 use Rattle.command.specs.Command.{selectOp}
 use Rattle.command.specs.Reading.{number, commandVerdict}
 use Rattle.sheet.specs.Sections.{sections, labelSize, mostOf, descriptionSize, recordSize, descriptionFault, slotOf, labelOf, descriptionOf}
 use Rattle.sheet.specs.Parsed.{Faultless}
 use Rattle.sheet.proofs.Bounds.{most-byte}
-use Rattle.compiler.specs.Items.{kindOf, addressOf, lengthsOf, chainsOf, chainsFrom, item, sizeOf, itemSize}
+use Rattle.compiler.specs.Items.{kindOf, addressOf, lengthsOf, chainsOf, item, itemSize}
 use Rattle.compiler.proofs.ItemLaws.{chains-lengths, words-fit, item-length, address-small, chains-some}
 use Rattle.reader.specs.Addresses.{slotAt, sectionAt}
-use Rattle.reader.specs.Judging.{itemWords, descriptionRead, descriptionIn, firstVerdict, chainsVerdict, itemVerdict, stepSize}
+use Rattle.reader.specs.Judging.{itemWords, descriptionIn, firstVerdict, chainsVerdict, itemVerdict, stepSize}
 use Rattle.reader.specs.Back.{labelFor, recordIn}
 use Rattle.reader.specs.Blanked.{cutDescription, blankRecord}
 use Rattle.reader.proofs.Places.{slot-fits, slot-address, section-of-slot, slot-of-address}
 use Rattle.reader.proofs.Cutting.{step-known}
 use Rattle.reader.proofs.Ways.{Described, way}
-use Rattle.reader.proofs.Chains.{chains-accepted, chains-read, chains-number, chains-select, chains-past, chains-whole, chains-written}
+use Rattle.reader.proofs.Chains.{chains-accepted, chains-read, chains-number, chains-select, chains-whole, chains-written}
 
 -- ---- labels
 

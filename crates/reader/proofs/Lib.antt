@@ -5,6 +5,9 @@ pub mod Chains
 pub mod Items
 pub mod Trip
 pub mod Again
-pub mod Theorems
 pub mod Enough
+pub mod Theorems
 pub mod Examples
+pub mod Walks
+pub mod Judged
+pub mod Written

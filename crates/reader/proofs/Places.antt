@@ -1,20 +1,21 @@
 -- Addresses: each slot of each section has one of its own, and in sending order they rise. The table of sections is looked at by
 -- computed tests alone. Assumes nothing.
-use Prim.Native.Nat.{ℕ, zero, suc, _+_, _-_, _≤_, _<_}
-use mathlib.Core.Path.{_≡_, refl, sym, ap}
+use Prim.Native.Nat.{ℕ, zero, suc, _+_, _*_, _≤_, _<_}
+use mathlib.Core.Path.{_≡_, refl, sym, ap, _∙_, subst}
 use mathlib.Core.Bool.{Bool}
 use mathlib.Core.List.{List, [], _∷_, List·Memᴰ, List·Memᴰ·head, List·Memᴰ·tail}
 use native.Mathlib.Decide.{decLt, ℕ-discrete}
 use native.Mathlib.Nat.{not-suc-le-zero}
 use native.Mathlib.Omega.{arith}
 use borrow.Author.Tests.{eq-eqb, ne-eqb, lt-ltb, le-ltb}
-use lib.Dec.{T, eqb, ltb, eqb→eq, leb→le}
+use lib.Dec.{T, eqb, eqb→eq}
 use lib.ListN.{length, getD}
 use Rattle.lines.proofs.Computed.{everyBelow, every-below}
 use Rattle.sheet.specs.Sections.{sections, rowOf, mostOf}
+use Rattle.sum.specs.Address.{sumAddress}
 use Rattle.compiler.specs.Items.{kindOf, addressOf}
 use Rattle.compiler.specs.Stream.{sendingOrder}
-use Rattle.compiler.proofs.ItemLaws.{address-small, chains-some, placeOf, place-below, place-sent, address-rises, address-later}
+use Rattle.compiler.proofs.ItemLaws.{address-small, chains-some, placeOf, place-below, place-sent, address-rises, address-later, sent-known}
 use Rattle.reader.specs.Addresses.{slotFrom, slotAt, sectionFrom, sectionAt}
 
 -- ---- what a search finds
@@ -124,10 +125,49 @@ pub sending-ranked : Ranked sendingOrder
 sending-ranked =
     is-ranked sendingOrder sent-known
     (λ i j a b l h ha hb. omega (arith, address-later i j a b l h ha hb, chains-some (getD sendingOrder i 0) (sent-known i (omega arith))))
-  where
-    sent-known : (i : ℕ) → i < length sendingOrder → getD sendingOrder i 0 < sections
-    sent-known i h = leb→le _ _ (every-below (length sendingOrder) (λ i. ltb (getD sendingOrder i 0) sections) tt i h)
 
 -- every section is sent
 pub sent-all : (k : ℕ) → k < sections → List·Memᴰ k sendingOrder
 sent-all k h = rw (place-sent k h) at (member sendingOrder (placeOf k) (place-below k h))
+
+-- ---- by arithmetic, as the code finds them
+
+section-bound : (n k a : ℕ) → sectionFrom n k a ≤ k + n
+unfolding sectionFrom
+section-bound zero k a = omega arith
+section-bound (suc n) k a =
+    elim (decLt (slotAt k a) (mostOf k)) [
+      | yes l ↦ let t = lt-ltb (slotAt k a) (mostOf k) l in rw t (omega arith)
+      | no d ↦ let t = le-ltb (slotAt k a) (mostOf k) (omega arith) in rw t (omega (arith, section-bound n (k + 1) a))
+    ]
+
+-- an address of section k's slot
+pub at-slot : (k slot a : ℕ) → k < sections → slot < mostOf k → addressOf k slot ≡ a → (sectionAt a ≡ k) × (slotAt k a ≡ slot)
+at-slot k slot a hk hs e =
+    (ap sectionAt (sym e) ∙ section-of-slot k slot hk hs, ap (slotAt k) (sym e) ∙ slot-of-address k slot hk hs)
+
+-- an address that is none of theirs
+module _ (a : ℕ) (terms : (slot : ℕ) → slot < 10 → 0x20 + slot ≡ a → ⊥) (ranges : (slot : ℕ) → slot < 2 → 0x30 + 2 * slot ≡ a → ⊥)
+    (edges : (slot : ℕ) → slot < 2 → 0x34 + slot ≡ a → ⊥) (sums : (slot : ℕ) → slot < 48 → sumAddress slot ≡ a → ⊥) where
+  not-known : (k : ℕ) → slotAt k a < mostOf k → addressOf k (slotAt k a) ≡ a → k < sections → ⊥
+  unfolding mostOf rowOf addressOf kindOf
+  not-known zero h e l = terms (slotAt 0 a) h e
+  not-known (suc zero) h e l = ranges (slotAt 1 a) h e
+  not-known (suc (suc zero)) h e l = edges (slotAt 2 a) h e
+  not-known (suc (suc (suc zero))) h e l = sums (slotAt 3 a) h e
+  not-known (suc (suc (suc (suc k)))) h e l = omega arith
+
+  pub unknown : sectionAt a ≡ sections
+  unfolding sectionAt
+  unknown =
+      elim (decLt (sectionAt a) sections) [
+        | yes h ↦ absurd (not-known (sectionAt a) (slot-fits a h) (slot-address a h) h)
+        | no h ↦ omega (arith, section-bound sections 0 a)
+      ]
+
+-- the slot of an address of section k, which is section j
+pub known-place : (k j a : ℕ) → k ≡ sectionAt a → k < sections → k ≡ j → (slotAt k a < mostOf j) × (addressOf j (slotAt k a) ≡ a)
+known-place k j a e h q =
+    let l : sectionAt a < sections = rw (← e) h in
+    let f = subst (λ (i : ℕ). (slotAt i a < mostOf i) × (addressOf i (slotAt i a) ≡ a)) (sym e) (slot-fits a l, slot-address a l) in
+    subst (λ (i : ℕ). (slotAt k a < mostOf i) × (addressOf i (slotAt k a) ≡ a)) q f

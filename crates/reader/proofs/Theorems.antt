@@ -1,21 +1,31 @@
 -- What is promised of reading commands back, each under the sentence of demand 2 that asks for it. Assumes nothing.
-use Prim.Native.Nat.{ℕ}
+use Prim.Native.Nat.{ℕ, _≤_}
 use mathlib.Core.Path.{_≡_, refl, sym, ap, _∙_, subst}
+use mathlib.Core.Bool.{Bool, true, false, cond}
 use mathlib.Core.List.{List}
-use mathlib.Core.Logic.{_↔_}
+use mathlib.Core.Logic.{_↔_, inl, inr}
+use native.Mathlib.Nat.{le-refl}
+use lib.Dec.{leb}
+use lib.ListN.{length, take, drop}
+use lib.Seq.{take-append-seam}
 use Rattle.buffer.specs.Bytes.{Bytes}
-use Rattle.buffer.specs.Room.{bytes, unless}
-use Rattle.buffer.specs.declared.Verdict.the-variants.{Accepted}
-use Rattle.buffer.proofs.Faults.{unless-bytes}
+use Rattle.buffer.specs.Room.{bytes, unless, fill, Delivered}
+use Rattle.buffer.specs.declared.Outcome.{Outcome}
+use Rattle.buffer.specs.declared.Outcome.the-variants as Outcome
+use Rattle.buffer.specs.declared.Verdict.{Verdict}
+use Rattle.buffer.specs.declared.Verdict.the-variants.{Accepted, Refused}
+use Rattle.buffer.proofs.Faults.{unless-bytes, no-refusal}
 use Rattle.sheet.specs.Reading.{verdict}
 use Rattle.sheet.specs.Parsed.{parse, render}
 use Rattle.sheet.proofs.Parsed.{render-accepted, parse-render, accepted-well-formed}
 use Rattle.compiler.specs.Stream.{streamOf, compiled}
 use Rattle.reader.specs.Judging.{streamVerdict}
 use Rattle.reader.specs.Back.{sheetIn, readBack}
-use Rattle.reader.specs.Blanked.{blanked, WrittenBySheet}
+use Rattle.reader.specs.Blanked.{blanked}
+use Rattle.reader.specs.Meaning.{WrittenBySheet, ReadSays}
 use Rattle.reader.proofs.Trip.{trip-accepted, trip-sheet, sheet-sound}
 use Rattle.reader.proofs.Again.{again-stream, again-well-formed, again-bytes}
+use Rattle.reader.proofs.Enough.{accepted-short, prefix-read}
 
 module _ (sheet : List ℕ) (b : Bytes sheet) (ok : verdict sheet ≡ Accepted) where
   -- the commands of an accepted sheet are accepted
@@ -54,3 +64,32 @@ accepted-exactly stream b = (
       let e = unless-bytes (verdict (w .sheet)) (streamOf (parse (w .sheet))) stream (w .writes) .1 in
       subst (λ (s : List ℕ). streamVerdict s ≡ Accepted) e (compiled-accepted (w .sheet) (w .sheet-bytes) (w .accepted)),
 )
+
+-- what the call answers says so: the sheet that it wrote writes the stream, or there was no room, or no accepted sheet writes it
+pub read-says : (stream : List ℕ) → Bytes stream → (room room′ : List ℕ) (r : Outcome) → Delivered (readBack stream) room r room′ → ReadSays stream r room′
+read-says stream b room room′ r d = go (streamVerdict stream) refl d
+  where
+    sheet : List ℕ
+    sheet = render (sheetIn stream)
+
+    fits : (ok : streamVerdict stream ≡ Accepted) (f : Bool) → r ≡ cond f (Outcome.Done (length sheet)) (Outcome.Refused 12 (length sheet)) → room′ ≡ cond f (fill sheet room) room
+        → ReadSays stream r room′
+    fits ok true e l =
+        let text : take (length sheet) room′ ≡ sheet = ap (take (length sheet)) l ∙ take-append-seam sheet (drop (length sheet) room) in
+        rw e (rw text (read-accepted stream b ok, read-compiled stream b ok))
+    fits ok false e l = rw e (inl (refl, accepted-exactly stream b .0 ok))
+
+    go : (v : Verdict) → streamVerdict stream ≡ v → Delivered (unless v sheet) room r room′ → ReadSays stream r room′
+    go Accepted e d = fits e (leb (length sheet) (length room)) (d .answer) (d .left)
+    go (Refused number place) e d =
+        rw (d .answer) (inr (λ w. no-refusal number place (sym e ∙ accepted-exactly stream b .1 w)))
+
+-- ---- how much of a stream the reader looks at
+
+-- 01, 'Chain words': 2,360 bytes is 'the most there can be'
+pub accepted-most : (stream : List ℕ) → streamVerdict stream ≡ Accepted → length stream ≤ 2360
+accepted-most = accepted-short
+
+-- so a program that hands over the first 2,365 bytes of a file, one whole command more, gets the whole file's answer
+pub enough : (stream : List ℕ) → readBack (take 2365 stream) ≡ readBack stream
+enough stream = prefix-read stream 2365 (le-refl 2365)

@@ -1,31 +1,29 @@
 -- Compiled and read back: the stream of a sheet is accepted, and read as that sheet blanked. Assumes nothing.
-use Prim.Native.Nat.{ℕ, zero, suc, zero-le, _+_, _*_, _≤_, _<_}
+use Prim.Native.Nat.{ℕ, zero, suc, zero-le, _+_, _≤_, _<_}
 use mathlib.Core.Path.{_≡_, refl, sym, ap, ap₂, _∙_, subst}
-use mathlib.Core.Bool.{cond}
 use mathlib.Core.List.{List, [], _∷_, _++_, append-assoc, append-nil, map, List·Memᴰ, List·Memᴰ·head, List·Memᴰ·tail, List·Memᴰ·not-nil, List·Memᴰ·cases-cons}
 use mathlib.Core.Logic.{⊎-elim}
 use native.Mathlib.Decide.{ℕ-discrete}
 use native.Mathlib.Nat.{add-zero, zero-add}
 use native.Mathlib.Omega.{arith}
 use borrow.Author.Tests.{eq-eqb, ne-eqb}
-use lib.Dec.{eqb}
-use lib.ListN.{length, getD, take, drop, length-append}
+use lib.ListN.{length, getD, length-append}
 use Rattle.buffer.specs.Bytes.{Bytes}
 use Rattle.buffer.specs.declared.Verdict.the-variants.{Accepted}
 use Rattle.buffer.proofs.Faults.{andThen-both}
 use Rattle.command.specs.Reading.{number}
-use Rattle.sheet.specs.Sections.{sections, mostOf, recordSize, slotOf}
+use Rattle.sheet.specs.Sections.{sections, mostOf, slotOf}
 use Rattle.sheet.specs.Parsed.{Faultless, Ordered, parse}
 use Rattle.sheet.specs.Reading.{verdict}
 use Rattle.sheet.proofs.Bounds.{most-positive}
 use Rattle.sheet.proofs.Descriptions.{bytes-parsed}
 use Rattle.sheet.proofs.Records.{section-ordered}
-use Rattle.compiler.specs.Items.{addressOf, item, itemSize}
-use Rattle.compiler.specs.Stream.{items, sendingOrder, sent, streamOf}
+use Rattle.compiler.specs.Items.{addressOf, item}
+use Rattle.compiler.specs.Stream.{items, sent, streamOf}
 use Rattle.compiler.proofs.ItemLaws.{item-length}
 use Rattle.reader.specs.Addresses.{sectionAt}
 use Rattle.reader.specs.Judging.{itemVerdict, stepSize, rests, itemsVerdict, streamVerdict}
-use Rattle.reader.specs.Back.{recordIn, recordsOf, sectionsOf, sheetIn}
+use Rattle.reader.specs.Back.{recordsOf, sectionsOf, sheetIn}
 use Rattle.reader.specs.Blanked.{blankRecord, blankedFrom, blanked}
 use Rattle.reader.proofs.Places.{addresses-rise, Clear, Ranked, sending-ranked, sent-all}
 use Rattle.reader.proofs.Cutting.{item-positive, rests-none, rests-some}

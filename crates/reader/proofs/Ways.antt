@@ -1,18 +1,17 @@
 -- The way there and back of each section's descriptions, as the detectors give it: the words of a description without fault are
 -- read as that description, a term's target cut, and what is read is a description without fault that writes the words.
 -- Assumes nothing.
-use Prim.Native.Nat.{ℕ, zero, suc, _+_, _≤_, _<_, _^_}
-use mathlib.Core.Path.{_≡_, refl, sym, ap, ap₂, _∙_, subst}
+use Prim.Native.Nat.{ℕ, zero, suc, _<_, _^_}
+use mathlib.Core.Path.{_≡_, refl, sym, ap, ap₂, _∙_}
 use mathlib.Core.Bool.{Bool, true, false, not, cond}
 use mathlib.Core.List.{List, [], _∷_, _++_, append-nil, flatten}
 use native.Mathlib.Nat.{not-suc-le-zero}
 use native.Mathlib.Omega.{arith}
 use borrow.Author.Tests.{leb-true}
-use lib.Dec.{eqb, leb, lit<}
-use lib.ListN.{length, getD, take, drop, length-drop, take-append-drop}
-use lib.Seq.{take-all, drop-drop}
-use Rattle.buffer.specs.Bytes.{Bytes, u32At, u32Bytes}
-use Rattle.buffer.proofs.Numbers.{bytes-nil, bytes-cons, bytes-append, bytes-drop, bytes-u32, u32-drop, u32-small, u32-read, u32-written}
+use lib.Dec.{leb, lit<}
+use lib.ListN.{length, getD}
+use Rattle.buffer.specs.Bytes.{Bytes}
+use Rattle.buffer.proofs.Numbers.{bytes-nil, bytes-cons, u32-small}
 use Rattle.lines.proofs.Truth.{both-true}
 use Rattle.term.specs.Words.{termWords}
 use Rattle.term.specs.Back.{readTerm, ReadMeans}
@@ -22,7 +21,7 @@ use Rattle.term.proofs.ReadingBack.{read-means}
 use Rattle.term.proofs.Theorems.{words-read-back}
 use Rattle.range.specs.Rule.{rangeFault}
 use Rattle.range.specs.Words.{rangeWords, sentWords, lowerChain, upperChain}
-use Rattle.range.specs.Back.{readRange, ReadSays}
+use Rattle.range.specs.Back.{readRange}
 use Rattle.range.specs.declared.ReadRange.{ReadRange}
 use Rattle.range.specs.declared.ReadRange.the-variants as ReadRange
 use Rattle.range.proofs.Faults.{fault-0}
@@ -38,7 +37,6 @@ use Rattle.edge.proofs.Theorems.{read-gives-back}
 use Rattle.sum.specs.Operation.{codesAccepted}
 use Rattle.sum.specs.Chain.{wordsOf}
 use Rattle.sum.specs.Reading.{readSum, Says}
-use Rattle.sum.specs.declared.ReadSum.{ReadSum}
 use Rattle.sum.proofs.Back as sum-back
 use Rattle.sum.proofs.Theorems as sum
 use Rattle.sheet.specs.Sections.{fieldOf, fieldBytes, noFault, rangeFaultOf, edgeFaultOf, sumFaultOf, sections, rowOf, descriptionSize, descriptionFault}

@@ -1,16 +1,11 @@
 -- What is left of a sheet when it is compiled and read back.
 use Prim.Native.Nat.{ℕ, _+_}
-use mathlib.Core.Path.{_≡_}
 use mathlib.Core.Bool.{cond}
 use mathlib.Core.List.{List, [], _∷_, _++_, map}
 use lib.Bits.{bitAnd}
 use lib.Dec.{eqb}
-use Rattle.buffer.specs.Bytes.{Bytes, u32Bytes}
-use Rattle.buffer.specs.Room.{bytes}
-use Rattle.buffer.specs.declared.Verdict.the-variants.{Accepted}
+use Rattle.buffer.specs.Bytes.{u32Bytes}
 use Rattle.sheet.specs.Sections.{fieldOf, slotOf, descriptionOf}
-use Rattle.sheet.specs.Reading.{verdict}
-use Rattle.compiler.specs.Stream.{compiled}
 use Rattle.reader.specs.Back.{labelFor}
 
 -- 01, 'Refusal numbers': 'targets cut to the mask': a term's target AND mask, then its mask
@@ -33,10 +28,3 @@ blankedFrom k (rs ∷ p) = map (blankRecord k) rs ∷ blankedFrom (k + 1) p
 -- 01, 'Refusal numbers': a sheet with the reader's labels, its targets cut to their masks
 unfoldable pub blanked : (p : List (List (List ℕ))) → List (List (List ℕ))
 blanked p = blankedFrom 0 p
-
--- demand 2: 'some accepted sheet writes it'
-pub record WrittenBySheet (stream : List ℕ) : Type 0 where
-  pub sheet : List ℕ
-  pub sheet-bytes : Bytes sheet
-  pub accepted : verdict sheet ≡ Accepted
-  pub writes : compiled sheet ≡ bytes stream

@@ -2,3 +2,4 @@ pub mod Addresses
 pub mod Judging
 pub mod Back
 pub mod Blanked
+pub mod Meaning

@@ -1,0 +1,65 @@
+-- `put_term` meets its contract: the words are read, and the description that they give is written. Assumes nothing.
+use Rattle.sheet.specs.Sections.{fieldBytes}
+use Rattle.compiler.proofs.ItemLaws.{delivers}
+use Rattle.reader.proofs.Walks.{told, nothing}
+use Rattle.term.specs.Back.{readTerm}
+use Rattle.reader.specs.Judging.{termBytes}
+use borrow.Author.Needs.{needs}
+use Rattle.reader.proofs.describe.put_term.Statement.{statement}
+use Rattle.reader.proofs.describe.put_term.Tie as tie
+
+slice-aggregate-take-words : tie.Need-slice-aggregate-take-words
+slice-aggregate-take-words c = search needs
+
+take-words-requires : tie.Need-take-words-requires
+take-words-requires c κs = search needs
+
+slice-aggregate-read-term : tie.Need-slice-aggregate-read-term
+slice-aggregate-read-term c = search needs
+
+read-term-requires : tie.Need-read-term-requires
+read-term-requires c κs = search needs
+
+enum-known-target : tie.Need-enum-known-target
+enum-known-target c = search needs
+
+slice-aggregate-put-numbers : tie.Need-slice-aggregate-put-numbers
+slice-aggregate-put-numbers c = search needs
+
+put-numbers-requires : tie.Need-put-numbers-requires
+put-numbers-requires c κs = search needs
+
+enum-told : tie.Need-enum-told
+enum-told c = search needs
+
+same-length : tie.Need-same-length
+same-length c = search needs
+
+returns : tie.Need-returns
+unfolding fieldBytes
+returns c =
+    let words = c .before .before .before .before .before .before .before .before .before .before .before .take-words .ensures in
+    let read = c .before .before .before .before .before .before .before .before .read-term .ensures .0 in
+    delivers (told readTerm termBytes _ _ _ _ words read (c .before .before .before .before .before .before .target .given .1)) (c .before .before .put-numbers .ensures)
+
+returns-2 : tie.Need-returns-2
+returns-2 c =
+    let words = c .before .before .before .before .before .take-words .ensures in
+    let read = c .before .before .read-term .ensures .0 in
+    nothing _ _ (told readTerm termBytes _ _ _ _ words read (c .enum-told .given .1))
+
+pub put-term-spec : {M : Type 1} → statement M
+put-term-spec =
+    tie.close
+    (tie.spec
+    slice-aggregate-take-words
+    take-words-requires
+    slice-aggregate-read-term
+    read-term-requires
+    enum-known-target
+    slice-aggregate-put-numbers
+    put-numbers-requires
+    enum-told
+    same-length
+    returns
+    returns-2)

@@ -1,0 +1,71 @@
+-- `check_first` meets its contract, test by test. Assumes nothing.
+use Prim.Native.Nat.{ℕ}
+use mathlib.Core.List.{List}
+use mathlib.Core.Path.{_≡_, sym, ap, _∙_}
+use denote.Ref.{now}
+use lib.ListN.{drop}
+use Rattle.command.specs.Reading.{number}
+use Rattle.reader.specs.Addresses.{sectionAt}
+use Rattle.reader.proofs.Judged.{first-refused, first-unknown, first-below, first-known}
+use borrow.Author.Needs.{needs}
+use Rattle.reader.proofs.judge.check_first.Statement.{statement}
+use Rattle.reader.proofs.judge.check_first.Tie as tie
+
+check-command-requires : tie.Need-check-command-requires
+check-command-requires c κs = search needs
+
+enum-known-checked : tie.Need-enum-known-checked
+enum-known-checked c = search needs
+
+returns : tie.Need-returns
+returns c =
+    let a = c .before .before .before .before .before .args in
+    let s : List ℕ = drop (a .at) (now (a .stream)) in
+    sym (first-refused (a .low) (a .at) s _ _ (sym (c .before .before .before .check-command .ensures) ∙ c .before .checked .given .1))
+
+enum-told : tie.Need-enum-told
+enum-told c = search needs
+
+number-at-requires : tie.Need-number-at-requires
+number-at-requires c κs = search needs
+
+section-at-requires : tie.Need-section-at-requires
+section-at-requires c κs = search needs
+
+returns-2 : tie.Need-returns-2
+returns-2 c =
+    let a = c .before .before .before .before .before .before .before .args in
+    let s : List ℕ = drop (a .at) (now (a .stream)) in
+    let e = sym (c .before .before .before .before .before .check-command .ensures) ∙ c .before .before .before .enum-told .given .1 in
+    let is : c .before .section-at .result ≡ sectionAt (number s) = c .before .section-at .ensures ∙ ap sectionAt (c .before .before .number-at .ensures) in
+    sym (first-unknown (a .low) (a .at) s e (rw (← is) (c .if1 .taken)))
+
+returns-3 : tie.Need-returns-3
+returns-3 c =
+    let a = c .before .before .before .before .before .before .before .before .args in
+    let s : List ℕ = drop (a .at) (now (a .stream)) in
+    let e = sym (c .before .before .before .before .before .before .check-command .ensures) ∙ c .before .before .before .before .enum-told .given .1 in
+    let is : c .before .before .section-at .result ≡ sectionAt (number s) = c .before .before .section-at .ensures ∙ ap sectionAt (c .before .before .before .number-at .ensures) in
+    sym (first-below (a .low) (a .at) s e (rw (← is) (c .before .if1 .left)) (rw (← c .before .before .before .number-at .ensures) (c .if2 .taken)))
+
+returns-4 : tie.Need-returns-4
+returns-4 c =
+    let a = c .before .before .before .before .before .before .before .before .args in
+    let s : List ℕ = drop (a .at) (now (a .stream)) in
+    let e = sym (c .before .before .before .before .before .before .check-command .ensures) ∙ c .before .before .before .before .enum-told .given .1 in
+    let is : c .before .before .section-at .result ≡ sectionAt (number s) = c .before .before .section-at .ensures ∙ ap sectionAt (c .before .before .before .number-at .ensures) in
+    sym (first-known (a .low) (a .at) s e (rw (← is) (c .before .if1 .left)) (rw (← c .before .before .before .number-at .ensures) (c .if2 .left)))
+
+pub check-first-spec : {M : Type 1} → statement M
+check-first-spec =
+    tie.close
+    (tie.spec
+    check-command-requires
+    enum-known-checked
+    returns
+    enum-told
+    number-at-requires
+    section-at-requires
+    returns-2
+    returns-3
+    returns-4)

@@ -1,0 +1,26 @@
+-- What the reader's answer says of a stream.
+use Prim.Native.Nat.{ℕ}
+use mathlib.Core.Path.{_≡_}
+use mathlib.Core.List.{List}
+use mathlib.Core.Logic.{_⊎_}
+use lib.ListN.{take}
+use Rattle.buffer.specs.Bytes.{Bytes}
+use Rattle.buffer.specs.Room.{bytes}
+use Rattle.buffer.specs.declared.Outcome.{Outcome}
+use Rattle.buffer.specs.declared.Outcome.the-variants.{Done, Refused}
+use Rattle.buffer.specs.declared.Verdict.the-variants.{Accepted}
+use Rattle.sheet.specs.Reading.{verdict}
+use Rattle.compiler.specs.Stream.{compiled}
+
+-- demand 2: 'some accepted sheet writes it'
+pub record WrittenBySheet (stream : List ℕ) : Type 0 where
+  pub sheet : List ℕ
+  pub sheet-bytes : Bytes sheet
+  pub accepted : verdict sheet ≡ Accepted
+  pub writes : compiled sheet ≡ bytes stream
+
+-- demand 2, of the answer and of what the room then holds: the sheet at its start is accepted and writes the stream;
+-- or some accepted sheet does, and there was no room for it; or none does
+abbrev pub ReadSays : (stream : List ℕ) → Outcome → (room : List ℕ) → Type 0
+ReadSays stream (Done n) room = (verdict (take n room) ≡ Accepted) × (compiled (take n room) ≡ bytes stream)
+ReadSays stream (Refused number place) room = ((number ≡ 12) × WrittenBySheet stream) ⊎ (WrittenBySheet stream → ⊥)
