@@ -1,16 +1,18 @@
 -- DEMAND 2, sentence by sentence, over the laws of the crates below. A sheet and a stream are lists of bytes. Assumes nothing.
 use Prim.Native.Nat.{ℕ, _≤_, _<_}
-use mathlib.Core.Path.{_≡_, refl, sym, ap, _∙_, subst}
+use mathlib.Core.Path.{_≡_, refl, sym, _∙_}
 use mathlib.Core.List.{List, []}
 use mathlib.Core.Logic.{_↔_}
-use lib.Dec.{lit<}
+use native.Mathlib.Omega.{arith}
 use lib.ListN.{length, getD, take}
 use Rattle.lut.specs.Answer.{hitOrMiss}
 use Rattle.buffer.specs.Bytes.{Bytes}
-use Rattle.buffer.specs.Room.{bytes, Delivered}
+use Rattle.buffer.specs.Room.{bytes, unless, outcome, Delivered}
 use Rattle.buffer.specs.declared.Outcome.{Outcome}
 use Rattle.buffer.specs.declared.Outcome.the-variants.{Done, Refused}
+use Rattle.buffer.specs.declared.Verdict.{Verdict}
 use Rattle.buffer.specs.declared.Verdict.the-variants.{Accepted}
+use Rattle.buffer.specs.declared.Verdict.the-variants as Verdict
 use Rattle.sheet.specs.Sections.{sections, fieldOf, descriptionOf}
 use Rattle.sheet.specs.Reading.{verdict}
 use Rattle.sheet.specs.Parsed.{parse, render}
@@ -25,7 +27,8 @@ use Rattle.compiler.proofs.Theorems as compiler
 use Rattle.compiler.proofs.Held.{SentAt}
 use Rattle.reader.specs.Judging.{streamVerdict}
 use Rattle.reader.specs.Back.{sheetIn, readBack}
-use Rattle.reader.specs.Blanked.{blanked, WrittenBySheet}
+use Rattle.reader.specs.Blanked.{blanked}
+use Rattle.reader.specs.Meaning.{WrittenBySheet}
 use Rattle.reader.proofs.Theorems as reader
 use Rattle.buffer.proofs.Writing.{answered, filled}
 use lib.Seq.{take-append-seam}
@@ -77,6 +80,22 @@ reading-writes-the-sheet sheet room r room′ b ok fits d =
 -- "given room for the sheet, a stream is accepted exactly if some accepted sheet writes it"
 pub accepted-iff-some-sheet-writes-it : (stream : List ℕ) → Bytes stream → (streamVerdict stream ≡ Accepted) ↔ WrittenBySheet stream
 accepted-iff-some-sheet-writes-it = reader.accepted-exactly
+
+-- the same of the call's answer: done, and nothing else, exactly then
+pub done-iff-some-sheet-writes-it : (stream room : List ℕ) (r : Outcome) (room′ : List ℕ) → Bytes stream
+    → length (render (sheetIn stream)) ≤ length room → Delivered (readBack stream) room r room′
+    → (r ≡ Done (length (render (sheetIn stream)))) ↔ WrittenBySheet stream
+done-iff-some-sheet-writes-it stream room r room′ b fits d = (
+  λ e. reader.accepted-exactly stream b .0 (accepted (streamVerdict stream) (sym e ∙ d .answer)),
+  λ w. answered sheet room r room′ fits (rw (reader.accepted-exactly stream b .1 w) at d),
+)
+  where
+    sheet : List ℕ
+    sheet = render (sheetIn stream)
+
+    accepted : (v : Verdict) → Done (length sheet) ≡ outcome (unless v sheet) (length room) → v ≡ Accepted
+    accepted Accepted e = refl
+    accepted (Verdict.Refused number place) e = let z : _≡_ {A = ℕ} 0 1 = cc in absurd (omega arith)
 
 -- and what is read of it is an accepted sheet, which compiles to the stream again
 pub what-is-read-is-a-sheet : (stream : List ℕ) → Bytes stream → streamVerdict stream ≡ Accepted
