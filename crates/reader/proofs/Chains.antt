@@ -1,6 +1,6 @@
--- The chains of an item, there and back: as they are written they are accepted and their words read, and accepted ones are what
--- their reading writes. Assumes nothing.
-use Prim.Native.Nat.{ℕ, suc, zero-le, _+_, _*_, _≤_, _<_, _^_}
+-- The chains of an item, there and back: as they are written they are accepted, and accepted ones are what their reading writes.
+-- Assumes nothing.
+use Prim.Native.Nat.{ℕ, zero-le, _+_, _*_, _≤_, _<_, _^_}
 use mathlib.Core.Path.{_≡_, refl, sym, ap, ap₂, _∙_}
 use mathlib.Core.Bool.{not}
 use mathlib.Core.List.{List, [], _∷_, _++_, append-assoc, map, flatten}
@@ -8,24 +8,20 @@ use native.Mathlib.Nat.{not-suc-le-zero}
 use native.Mathlib.Omega.{arith}
 use borrow.Author.Tests.{eq-eqb, eqb-true, not-false}
 use lib.Dec.{eqb}
-use lib.ListN.{length, getD, take, drop, length-drop}
+use lib.ListN.{length, take, drop, length-drop}
 use lib.Seq.{take-add, take-append-seam, drop-append-seam, take-at, drop-at}
 use Rattle.buffer.specs.Bytes.{Bytes}
 use Rattle.buffer.specs.Verdict.{refuseIf}
 use Rattle.buffer.specs.declared.Verdict.the-variants.{Accepted}
 use Rattle.buffer.proofs.Faults.{andThen-accepted, andThen-both, refuseIf-accepted}
 use Rattle.buffer.proofs.Numbers.{bytes-drop}
-use Rattle.command.specs.Command.{selectOp, chain, Words}
+use Rattle.command.specs.Command.{selectOp, chain}
 use Rattle.command.specs.Reading.{number, commandVerdict, loadsVerdict, wordsIn}
 use Rattle.command.proofs.Checked.{command-ok, loads-whole, length-words}
-use Rattle.command.proofs.RoundTrip.{chain-selects, chain-address, chain-loads, chain-words, chain-past, chain-written}
+use Rattle.command.proofs.RoundTrip.{chain-selects, chain-address, chain-loads, chain-past, chain-written}
 use Rattle.compiler.specs.Items.{chainsFrom, sizeOf}
-use Rattle.compiler.proofs.ItemLaws.{chains-length}
-use Rattle.reader.specs.Judging.{itemWords, chainsVerdict}
-
--- each of these chains has 32-bit words
-abbrev pub AllWords : List (List ℕ) → Type 0
-AllWords chains = (i : ℕ) → Words (getD chains i [])
+use Rattle.compiler.specs.Chains.{wordsRead}
+use Rattle.reader.specs.Judging.{chainsVerdict}
 
 -- ---- as they are written
 
@@ -51,16 +47,6 @@ chains-accepted address at (ws ∷ more) rest h =
     (chain-accepted address ws (chainsFrom (address + 1) more ++ rest) (omega arith) (map length more) at
     (chains-accepted (address + 1) (at + (5 + 5 * length ws)) more rest (omega arith)))
 
-pub chains-read : (address : ℕ) (chains : List (List ℕ)) (rest : List ℕ) → AllWords chains
-    → itemWords (map length chains) (chainsFrom address chains ++ rest) ≡ flatten chains
-unfolding chainsFrom itemWords flatten
-chains-read address [] rest h = refl
-chains-read address (ws ∷ more) rest h =
-    let tail = chainsFrom (address + 1) more ++ rest in
-    rw (append-assoc (chain address ws) (chainsFrom (address + 1) more) rest)
-    (ap₂ (λ (a b : List ℕ). a ++ b) (chain-words address ws tail (length ws) refl (h 0))
-    (ap (itemWords (map length more)) (chain-past address ws tail (length ws) refl) ∙ chains-read (address + 1) more rest (λ i. h (suc i))))
-
 pub chains-number : (address : ℕ) (chains : List (List ℕ)) (rest : List ℕ) → 0 < length chains → address < 2 ^ 32
     → number (chainsFrom address chains ++ rest) ≡ address
 unfolding chainsFrom
@@ -75,10 +61,6 @@ unfolding chainsVerdict
 chains-select [] address at s h e = absurd (not-suc-le-zero h)
 chains-select (n ∷ ns) address at s h e = andThen-accepted (commandVerdict selectOp at s) _ e .0
 
-pub chains-past : (address : ℕ) (chains : List (List ℕ)) (rest : List ℕ)
-    → drop (sizeOf (map length chains)) (chainsFrom address chains ++ rest) ≡ rest
-chains-past address chains rest = drop-at (chainsFrom address chains) rest (sizeOf (map length chains)) (chains-length address chains)
-
 -- ---- as they are read
 
 -- chains of so many words each
@@ -86,8 +68,8 @@ pub chainsIn : (lengths s : List ℕ) → List (List ℕ)
 chainsIn [] s = []
 chainsIn (n ∷ ns) s = wordsIn n (drop 5 s) ∷ chainsIn ns (drop (5 + 5 * n) s)
 
-in-words : (lengths s : List ℕ) → flatten (chainsIn lengths s) ≡ itemWords lengths s
-unfolding chainsIn itemWords flatten
+in-words : (lengths s : List ℕ) → flatten (chainsIn lengths s) ≡ wordsRead lengths s
+unfolding chainsIn wordsRead flatten
 in-words [] s = refl
 in-words (n ∷ ns) s = ap (λ (ws : List ℕ). wordsIn n (drop 5 s) ++ ws) (in-words ns (drop (5 + 5 * n) s))
 
@@ -157,7 +139,7 @@ in-written (n ∷ ns) address at s h e =
 
 -- accepted chains are those that have their words
 pub chains-written : (chains : List (List ℕ)) (address at : ℕ) (s : List ℕ) → Bytes s → chainsVerdict (map length chains) address at s ≡ Accepted
-    → flatten chains ≡ itemWords (map length chains) s → take (sizeOf (map length chains)) s ≡ chainsFrom address chains
+    → flatten chains ≡ wordsRead (map length chains) s → take (sizeOf (map length chains)) s ≡ chainsFrom address chains
 chains-written chains address at s h e w =
     let lengths = map length chains in
     in-written lengths address at s h e

@@ -22,8 +22,9 @@ use Rattle.command.specs.Reading.{number, commandVerdict, loadsVerdict, wordsIn
 use Rattle.sheet.specs.Sections.{sections, rowOf, mostOf}
 use Rattle.sheet.specs.Parsed.{render}
 use Rattle.compiler.specs.Items.{kindOf, addressOf, lengthsOf, sizeOf, itemSize}
+use Rattle.compiler.specs.Chains.{wordsRead}
 use Rattle.reader.specs.Addresses.{slotFrom, slotAt, sectionFrom, sectionAt}
-use Rattle.reader.specs.Judging.{itemWords, descriptionIn, firstVerdict, chainsVerdict, itemVerdict, stepSize, rests, itemsVerdict, streamVerdict}
+use Rattle.reader.specs.Judging.{descriptionIn, firstVerdict, chainsVerdict, itemVerdict, stepSize, rests, itemsVerdict, streamVerdict}
 use Rattle.reader.specs.Back.{sheetIn, readBack}
 use Rattle.reader.proofs.Places.{known-small}
 use Rattle.reader.proofs.Cutting.{step-known, rests-none, rests-some, by-rests}
@@ -63,12 +64,12 @@ words-prefix (suc k) n s h =
     ap₂ (λ (w : ℕ) (ws : List ℕ). w ∷ ws) (number-prefix n s (omega arith))
     (ap (wordsIn k) (drop-take 5 n s) ∙ words-prefix k (n - 5) (drop 5 s) (omega arith))
 
-item-words-prefix : (lengths : List ℕ) (n : ℕ) (s : List ℕ) → sizeOf lengths ≤ n → itemWords lengths (take n s) ≡ itemWords lengths s
-unfolding itemWords sizeOf
+item-words-prefix : (lengths : List ℕ) (n : ℕ) (s : List ℕ) → sizeOf lengths ≤ n → wordsRead lengths (take n s) ≡ wordsRead lengths s
+unfolding wordsRead sizeOf
 item-words-prefix [] n s h = refl
 item-words-prefix (m ∷ ms) n s h =
     ap₂ (λ (a b : List ℕ). a ++ b) (ap (wordsIn m) (drop-take 5 n s) ∙ words-prefix m (n - 5) (drop 5 s) (omega arith))
-    (ap (itemWords ms) (drop-take (5 + 5 * m) n s) ∙ item-words-prefix ms (n - (5 + 5 * m)) (drop (5 + 5 * m) s) (omega arith))
+    (ap (wordsRead ms) (drop-take (5 + 5 * m) n s) ∙ item-words-prefix ms (n - (5 + 5 * m)) (drop (5 + 5 * m) s) (omega arith))
 
 chains-prefix : (lengths : List ℕ) (address at n : ℕ) (s : List ℕ) → sizeOf lengths ≤ n
     → chainsVerdict lengths address at (take n s) ≡ chainsVerdict lengths address at s

@@ -28,8 +28,9 @@ use Rattle.sum.specs.Reading.{codesOf}
 use Rattle.sheet.specs.Sections.{rowOf, mostOf}
 use Rattle.sheet.specs.Parsed.{joined, render}
 use Rattle.compiler.specs.Items.{kindOf, addressOf, lengthsOf, sizeOf, itemSize}
+use Rattle.compiler.specs.Chains.{wordsRead}
 use Rattle.reader.specs.Addresses.{slotFrom, slotAt, sectionFrom, sectionAt}
-use Rattle.reader.specs.Judging.{itemWords, descriptionRead, descriptionIn, firstVerdict, chainsVerdict, itemVerdict, stepSize, restsFrom, rests, itemsVerdict, streamVerdict}
+use Rattle.reader.specs.Judging.{descriptionRead, descriptionIn, firstVerdict, chainsVerdict, itemVerdict, stepSize, restsFrom, rests, itemsVerdict, streamVerdict}
 use Rattle.reader.specs.Back.{recordsOf, sectionsOf, sheetIn, readBack}
 use Rattle.reader.proofs.Cutting.{rests-some}
 
@@ -101,7 +102,7 @@ table =
     ∷ []
 
 pub examples : T (allHold table)
-unfolding allHold agree gives table term ends lower upper streamVerdict itemsVerdict rests restsFrom stepSize itemVerdict firstVerdict chainsVerdict descriptionIn descriptionRead itemWords commandVerdict loadsVerdict wordsIn loads itemSize sizeOf lengthsOf addressOf kindOf mostOf rowOf sectionAt sectionFrom slotAt slotFrom u32At readTerm partOf linesAfter wordPart nibbleMask trailingZeros tableOf term-words.termWords term-words.wordsDown term-words.chainWord term-words.nibbleTable same readRange linesWith chainBound fromLines gathered scattered ones range-words.sentWords range-words.chainWords range-words.wordsDown range-words.lowerValue range-words.upperValue covers wishFrom overLines edge-words.wordsFrom edge-words.pairTable codesOf opCode codesAccepted
+unfolding allHold agree gives table term ends lower upper streamVerdict itemsVerdict rests restsFrom stepSize itemVerdict firstVerdict chainsVerdict descriptionIn descriptionRead wordsRead commandVerdict loadsVerdict wordsIn loads itemSize sizeOf lengthsOf addressOf kindOf mostOf rowOf sectionAt sectionFrom slotAt slotFrom u32At readTerm partOf linesAfter wordPart nibbleMask trailingZeros tableOf term-words.termWords term-words.wordsDown term-words.chainWord term-words.nibbleTable same readRange linesWith chainBound fromLines gathered scattered ones range-words.sentWords range-words.chainWords range-words.wordsDown range-words.lowerValue range-words.upperValue covers wishFrom overLines edge-words.wordsFrom edge-words.pairTable codesOf opCode codesAccepted
 examples = tt
 
 -- ---- what is read

@@ -3,7 +3,7 @@
 use Prim.Native.Nat.{ℕ, _+_, _≤_, _<_, _^_}
 use mathlib.Core.Path.{_≡_, refl, sym, ap, _∙_, subst}
 use mathlib.Core.Bool.{Bool, true, false, _||_, true≢false}
-use mathlib.Core.List.{List, _∷_, _++_, flatten}
+use mathlib.Core.List.{List, _∷_, _++_}
 use native.Mathlib.Omega.{arith}
 use borrow.Author.Tests.{lt-leb, le-ltb, ne-eqb, leb-false, ltb-false, eqb-false}
 use lib.Dec.{eqb, ltb, leb, leb→le, lit<}
@@ -22,15 +22,17 @@ use Rattle.sheet.specs.Sections.{sections, labelSize, mostOf, descriptionSize, 
 use Rattle.sheet.specs.Parsed.{Faultless}
 use Rattle.sheet.proofs.Bounds.{most-byte}
 use Rattle.compiler.specs.Items.{kindOf, addressOf, lengthsOf, chainsOf, item, itemSize}
-use Rattle.compiler.proofs.ItemLaws.{chains-lengths, words-fit, item-length, address-small, chains-some}
+use Rattle.compiler.specs.Chains.{wordsRead}
+use Rattle.compiler.proofs.ItemLaws.{chains-lengths, item-length, address-small, chains-some}
+use Rattle.compiler.proofs.Held as held
 use Rattle.reader.specs.Addresses.{slotAt, sectionAt}
-use Rattle.reader.specs.Judging.{itemWords, descriptionIn, firstVerdict, chainsVerdict, itemVerdict, stepSize}
+use Rattle.reader.specs.Judging.{descriptionIn, firstVerdict, chainsVerdict, itemVerdict, stepSize}
 use Rattle.reader.specs.Back.{labelFor, recordIn}
 use Rattle.reader.specs.Blanked.{cutDescription, blankRecord}
 use Rattle.reader.proofs.Places.{slot-fits, slot-address, section-of-slot, slot-of-address}
 use Rattle.reader.proofs.Cutting.{step-known}
 use Rattle.reader.proofs.Ways.{Described, way}
-use Rattle.reader.proofs.Chains.{chains-accepted, chains-read, chains-number, chains-select, chains-whole, chains-written}
+use Rattle.reader.proofs.Chains.{chains-accepted, chains-number, chains-select, chains-whole, chains-written}
 
 -- ---- labels
 
@@ -101,14 +103,10 @@ module _ (k floor : ℕ) (r rest : List ℕ) (hk : k < sections) (f : Faultless 
   whole : length (descriptionOf r) ≡ descriptionSize k
   whole = omega (arith, length-drop (1 + labelSize) r, f .whole)
 
-  words : itemWords (lengthsOf k) (item k r ++ rest) ≡ flatten (chainsOf k (descriptionOf r))
-  unfolding item
-  words = rw (← chains-lengths k (descriptionOf r)) (chains-read (addressOf k (slotOf r)) (chainsOf k (descriptionOf r)) rest (words-fit k (descriptionOf r)))
-
   pub item-description : descriptionIn (item k r ++ rest) ≡ cutDescription k (descriptionOf r)
   unfolding descriptionIn
   item-description =
-      rw (item-section, words) (way k hk .back (descriptionOf r) (bytes-drop (1 + labelSize) r b) whole (f .description-fits))
+      rw (item-section, held.item-read k r rest) (way k hk .back (descriptionOf r) (bytes-drop (1 + labelSize) r b) whole (f .description-fits))
 
   pub item-record : recordIn (item k r ++ rest) ≡ blankRecord k r
   unfolding recordIn blankRecord
@@ -164,9 +162,9 @@ module _ (low at : ℕ) (s : List ℕ) (e : itemVerdict low at s ≡ Accepted) w
   unfolding itemSize
   item-whole = chains-whole (lengthsOf (sectionAt (number s))) (number s) at s (later-ok .0)
 
-  described : Described (sectionAt (number s)) (itemWords (lengthsOf (sectionAt (number s))) s) (descriptionIn s)
+  described : Described (sectionAt (number s)) (wordsRead (lengthsOf (sectionAt (number s))) s) (descriptionIn s)
   unfolding descriptionIn
-  described = way (sectionAt (number s)) item-known .exactly (itemWords (lengthsOf (sectionAt (number s))) s) (later-ok .1)
+  described = way (sectionAt (number s)) item-known .exactly (wordsRead (lengthsOf (sectionAt (number s))) s) (later-ok .1)
 
   pub record-bytes : Bytes (recordIn s)
   unfolding recordIn

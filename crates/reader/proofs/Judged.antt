@@ -20,8 +20,9 @@ use Rattle.command.specs.Reading.{number, commandVerdict, loadsVerdict}
 use Rattle.command.proofs.Checked.{command-ok}
 use Rattle.sheet.specs.Sections.{sections}
 use Rattle.compiler.specs.Items.{kindOf, lengthsOf, sizeOf, itemSize}
+use Rattle.compiler.specs.Chains.{wordsRead}
 use Rattle.reader.specs.Addresses.{sectionAt}
-use Rattle.reader.specs.Judging.{itemWords, descriptionRead, descriptionIn, firstVerdict, chainsVerdict, itemVerdict, stepSize, rests, itemsVerdict}
+use Rattle.reader.specs.Judging.{descriptionRead, descriptionIn, firstVerdict, chainsVerdict, itemVerdict, stepSize, rests, itemsVerdict}
 use Rattle.reader.proofs.Cutting.{step-known, step-unknown, rests-none, rests-some}
 use Rattle.reader.proofs.Chains.{chains-whole}
 
@@ -147,11 +148,11 @@ module _ (low at : ℕ) (s : List ℕ) (k a : ℕ) (is : k ≡ sectionAt (number
   item-unfinished n p f = rw (e, ← is, ← selected, f)
 
   module _ (f : chainsVerdict (lengthsOf k) a at s ≡ Accepted) where
-    pub item-unread : length (descriptionRead k (itemWords (lengthsOf k) s)) ≡ 0 → itemVerdict low at s ≡ Refused 16 at
+    pub item-unread : length (descriptionRead k (wordsRead (lengthsOf k) s)) ≡ 0 → itemVerdict low at s ≡ Refused 16 at
     unfolding itemVerdict descriptionIn
     item-unread h = rw (e, ← is, ← selected, f) (simp (eq-eqb _ 0 h))
 
-    pub item-read : (length (descriptionRead k (itemWords (lengthsOf k) s)) ≡ 0 → ⊥) → itemVerdict low at s ≡ Accepted
+    pub item-read : (length (descriptionRead k (wordsRead (lengthsOf k) s)) ≡ 0 → ⊥) → itemVerdict low at s ≡ Accepted
     unfolding itemVerdict descriptionIn
     item-read h = rw (e, ← is, ← selected, f) (simp (ne-eqb _ 0 h))
 

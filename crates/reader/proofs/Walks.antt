@@ -21,7 +21,8 @@ use Rattle.sum.specs.Reading.{readSum}
 use Rattle.sum.specs.declared.ReadSum.{ReadSum}
 use Rattle.sheet.specs.Sections.{fieldBytes, sections}
 use Rattle.compiler.specs.Items.{kindOf, lengthsOf}
-use Rattle.reader.specs.Judging.{itemWords, termBytes, rangeBytes, edgeBytes, sumBytes, backs, descriptionRead}
+use Rattle.compiler.specs.Chains.{wordsRead}
+use Rattle.reader.specs.Judging.{termBytes, rangeBytes, edgeBytes, sumBytes, backs, descriptionRead}
 
 -- ---- the numbers of a description, from the i-th on
 
@@ -72,30 +73,30 @@ module _ (item into xs ys : List ℕ) (l : length into ≡ 32) where
 -- ---- the description of an item of section k
 
 module _ (k : ℕ) (item : List ℕ) where
-  one-chain : (n : ℕ) → wordsIn n (drop 5 item) ≡ itemWords (n ∷ []) item
-  unfolding itemWords
+  one-chain : (n : ℕ) → wordsIn n (drop 5 item) ≡ wordsRead (n ∷ []) item
+  unfolding wordsRead
   one-chain n = sym (append-nil (wordsIn n (drop 5 item)))
 
-  two-chains : wordsIn 16 (drop 5 item) ++ wordsIn 16 (drop 90 item) ≡ itemWords (16 ∷ 16 ∷ []) item
-  unfolding itemWords
+  two-chains : wordsIn 16 (drop 5 item) ++ wordsIn 16 (drop 90 item) ≡ wordsRead (16 ∷ 16 ∷ []) item
+  unfolding wordsRead
   two-chains =
       ap (λ (ws : List ℕ). wordsIn 16 (drop 5 item) ++ ws)
       (ap (wordsIn 16) (sym (drop-drop 5 85 item)) ∙ sym (append-nil (wordsIn 16 (drop 5 (drop 85 item)))))
 
-  pub of-term : k ≡ 0 → termBytes (readTerm (wordsIn 4 (drop 5 item))) ≡ descriptionRead k (itemWords (lengthsOf k) item)
+  pub of-term : k ≡ 0 → termBytes (readTerm (wordsIn 4 (drop 5 item))) ≡ descriptionRead k (wordsRead (lengthsOf k) item)
   unfolding descriptionRead lengthsOf kindOf
   of-term e = rw e (ap (λ (ws : List ℕ). termBytes (readTerm ws)) (one-chain 4))
 
   pub of-range : k ≡ 1
-      → rangeBytes (readRange (wordsIn 16 (drop 5 item) ++ wordsIn 16 (drop 90 item))) ≡ descriptionRead k (itemWords (lengthsOf k) item)
+      → rangeBytes (readRange (wordsIn 16 (drop 5 item) ++ wordsIn 16 (drop 90 item))) ≡ descriptionRead k (wordsRead (lengthsOf k) item)
   unfolding descriptionRead lengthsOf kindOf
   of-range e = rw e (ap (λ (ws : List ℕ). rangeBytes (readRange ws)) two-chains)
 
-  pub of-edge : k ≡ 2 → edgeBytes (readEdge (wordsIn 8 (drop 5 item))) ≡ descriptionRead k (itemWords (lengthsOf k) item)
+  pub of-edge : k ≡ 2 → edgeBytes (readEdge (wordsIn 8 (drop 5 item))) ≡ descriptionRead k (wordsRead (lengthsOf k) item)
   unfolding descriptionRead lengthsOf kindOf
   of-edge e = rw e (ap (λ (ws : List ℕ). edgeBytes (readEdge ws)) (one-chain 8))
 
-  pub of-sum : k ≡ 3 → sumBytes (readSum (wordsIn 6 (drop 5 item))) ≡ descriptionRead k (itemWords (lengthsOf k) item)
+  pub of-sum : k ≡ 3 → sumBytes (readSum (wordsIn 6 (drop 5 item))) ≡ descriptionRead k (wordsRead (lengthsOf k) item)
   unfolding descriptionRead lengthsOf kindOf
   of-sum e = rw e (ap (λ (ws : List ℕ). sumBytes (readSum ws)) (one-chain 6))
 

@@ -18,8 +18,9 @@ use Rattle.sheet.specs.Parsed.{joined, render}
 use Rattle.sheet.proofs.Bounds.{most-byte, section-bound}
 use Rattle.sheet.proofs.Parsed.{ordered-count, joined-length}
 use Rattle.compiler.specs.Items.{lengthsOf}
+use Rattle.compiler.specs.Chains.{wordsRead}
 use Rattle.reader.specs.Addresses.{slotAt, sectionAt}
-use Rattle.reader.specs.Judging.{itemWords, descriptionRead, descriptionIn, itemVerdict, stepSize, rests, itemsVerdict, streamVerdict}
+use Rattle.reader.specs.Judging.{descriptionRead, descriptionIn, itemVerdict, stepSize, rests, itemsVerdict, streamVerdict}
 use Rattle.reader.specs.Back.{labelFor, recordIn, recordsOf, sectionsOf}
 use Rattle.reader.proofs.Cutting.{rests-none, rests-some}
 use Rattle.reader.proofs.Items.{item-read}
@@ -29,7 +30,7 @@ use Rattle.reader.proofs.Judged.{items-turn}
 -- ---- a record of section k, in parts
 
 pub record-parts : (k : ℕ) (item : List ℕ) → k ≡ sectionAt (number item)
-    → recordIn item ≡ slotAt k (number item) ∷ (labelFor k (slotAt k (number item)) ++ descriptionRead k (itemWords (lengthsOf k) item))
+    → recordIn item ≡ slotAt k (number item) ∷ (labelFor k (slotAt k (number item)) ++ descriptionRead k (wordsRead (lengthsOf k) item))
 unfolding recordIn descriptionIn
 record-parts k item is = rw (← is)
 

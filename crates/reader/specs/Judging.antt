@@ -9,7 +9,7 @@ use Rattle.buffer.specs.Verdict.{andThen, refuseIf}
 use Rattle.buffer.specs.declared.Verdict.{Verdict}
 use Rattle.buffer.specs.declared.Verdict.the-variants.{Accepted}
 use Rattle.command.specs.Command.{selectOp}
-use Rattle.command.specs.Reading.{number, commandVerdict, loadsVerdict, wordsIn}
+use Rattle.command.specs.Reading.{number, commandVerdict, loadsVerdict}
 use Rattle.sheet.specs.Sections.{sections}
 use Rattle.term.specs.Back.{readTerm}
 use Rattle.term.specs.declared.ReadTerm.{ReadTerm}
@@ -23,14 +23,10 @@ use Rattle.edge.specs.declared.ReadEdge.the-variants as ReadEdge
 use Rattle.sum.specs.Reading.{readSum}
 use Rattle.sum.specs.declared.ReadSum.{ReadSum}
 use Rattle.compiler.specs.Items.{lengthsOf, itemSize}
+use Rattle.compiler.specs.Chains.{wordsRead}
 use Rattle.reader.specs.Addresses.{sectionAt}
 
--- ---- the words of an item, and the description that they are read as; [] stands for words that no accepted description writes
-
--- the words of chains with so many words each, one chain after the other
-unfoldable pub itemWords : (lengths : List ℕ) (s : List ℕ) → List ℕ
-itemWords [] s = []
-itemWords (n ∷ ns) s = wordsIn n (drop 5 s) ++ itemWords ns (drop (5 + 5 * n) s)
+-- ---- the description that an item's words are read as; [] stands for words that no accepted description writes
 
 -- 01, 'The set-up sheet': target, mask
 abbrev pub termBytes : ReadTerm → List ℕ
@@ -65,7 +61,7 @@ descriptionRead k words = getD backs k (λ words. []) words
 
 -- the description of the item at the start of s
 unfoldable pub descriptionIn : (s : List ℕ) → List ℕ
-descriptionIn s = descriptionRead (sectionAt (number s)) (itemWords (lengthsOf (sectionAt (number s))) s)
+descriptionIn s = descriptionRead (sectionAt (number s)) (wordsRead (lengthsOf (sectionAt (number s))) s)
 
 -- ---- the verdict
 

@@ -10,7 +10,8 @@ ghost use Rattle.edge.specs.Reading.{readEdge};
 ghost use Rattle.sum.specs.Reading.{readSum};
 ghost use Rattle.sheet.specs.Sections.{fieldBytes};
 ghost use Rattle.compiler.specs.Items.{lengthsOf};
-ghost use Rattle.reader.specs.Judging.{itemWords, termBytes, rangeBytes, edgeBytes, sumBytes, descriptionRead};
+ghost use Rattle.compiler.specs.Chains.{wordsRead};
+ghost use Rattle.reader.specs.Judging.{termBytes, rangeBytes, edgeBytes, sumBytes, descriptionRead};
 use buffer::OUTPUT_TOO_SHORT;
 use buffer::Outcome;
 use edge::ReadEdge;
@@ -99,7 +100,7 @@ fn put_sum(out: &mut [u8], item: &[u8]) -> Outcome
 
 // The description of an item of a section; nothing for words that no accepted description writes.
 pub(crate) fn put_description(out: &mut [u8], section: usize, item: &[u8]) -> Outcome
-    ensures { λ r. ⌜ Delivered (bytes (descriptionRead section (itemWords (lengthsOf section) (now (item .entry))))) (now (out .entry)) r (now (out .exit)) ⌝ }
+    ensures { λ r. ⌜ Delivered (bytes (descriptionRead section (wordsRead (lengthsOf section) (now (item .entry))))) (now (out .entry)) r (now (out .exit)) ⌝ }
 {
     match section {
         0 => put_term(out, item),

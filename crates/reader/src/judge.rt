@@ -5,7 +5,8 @@ ghost use Prim.Native.Nat.{_+_, _<_};
 ghost use lib.ListN.{length, drop};
 ghost use Rattle.sheet.specs.Sections.{sections};
 ghost use Rattle.compiler.specs.Items.{lengthsOf};
-ghost use Rattle.reader.specs.Judging.{itemWords, descriptionRead, firstVerdict, chainsVerdict, itemVerdict, stepSize, streamVerdict};
+ghost use Rattle.compiler.specs.Chains.{wordsRead};
+ghost use Rattle.reader.specs.Judging.{descriptionRead, firstVerdict, chainsVerdict, itemVerdict, stepSize, streamVerdict};
 use crate::address::section_at;
 use crate::describe::put_description;
 use buffer::Verdict;
@@ -78,7 +79,7 @@ fn check_chains(stream: &[u8], at: usize, section: usize, address: u32) -> Verdi
 
 // How many bytes the description of an item has; none for words that no accepted description writes.
 fn description_length(section: usize, item: &[u8]) -> usize
-    ensures { λ r. ⌜ r ≡ length (descriptionRead section (itemWords (lengthsOf section) (now (item .entry)))) ⌝ }
+    ensures { λ r. ⌜ r ≡ length (descriptionRead section (wordsRead (lengthsOf section) (now (item .entry)))) ⌝ }
 {
     let mut room = [0u8; 12];
     buffer::outcome_place(put_description(&mut room, section, item))

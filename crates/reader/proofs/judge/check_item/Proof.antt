@@ -6,8 +6,9 @@ use denote.Ref.{now}
 use lib.ListN.{length, drop}
 use Rattle.command.specs.Reading.{number}
 use Rattle.compiler.specs.Items.{lengthsOf}
+use Rattle.compiler.specs.Chains.{wordsRead}
 use Rattle.reader.specs.Addresses.{sectionAt}
-use Rattle.reader.specs.Judging.{itemWords, descriptionRead}
+use Rattle.reader.specs.Judging.{descriptionRead}
 use Rattle.reader.proofs.Places.{known-small}
 use Rattle.reader.proofs.Items.{first-accepted}
 use Rattle.reader.proofs.Judged.{item-refused, item-unfinished, item-unread, item-read}
@@ -76,8 +77,8 @@ returns-3 c =
     let is = c .before .before .before .before .before .before .section-at .ensures ∙ ap sectionAt selected in
     let chains = sym (c .before .before .before .before .before .check-chains .ensures) ∙ c .before .before .before .enum-told2 .given .1 in
     let k = c .before .before .before .before .before .before .section-at .result in
-    let size : c .before .description-length .result ≡ length (descriptionRead k (itemWords (lengthsOf k) s)) =
-    c .before .description-length .ensures ∙ ap (λ (t : List ℕ). length (descriptionRead k (itemWords (lengthsOf k) t))) (c .before .before .suffix .ensures) in
+    let size : c .before .description-length .result ≡ length (descriptionRead k (wordsRead (lengthsOf k) s)) =
+    c .before .description-length .ensures ∙ ap (λ (t : List ℕ). length (descriptionRead k (wordsRead (lengthsOf k) t))) (c .before .before .suffix .ensures) in
     sym (item-unread (a .low) (a .at) s k _ is selected first chains (sym size ∙ c .if1 .taken))
 
 returns-4 : tie.Need-returns-4
@@ -89,8 +90,8 @@ returns-4 c =
     let is = c .before .before .before .before .before .before .section-at .ensures ∙ ap sectionAt selected in
     let chains = sym (c .before .before .before .before .before .check-chains .ensures) ∙ c .before .before .before .enum-told2 .given .1 in
     let k = c .before .before .before .before .before .before .section-at .result in
-    let size : c .before .description-length .result ≡ length (descriptionRead k (itemWords (lengthsOf k) s)) =
-    c .before .description-length .ensures ∙ ap (λ (t : List ℕ). length (descriptionRead k (itemWords (lengthsOf k) t))) (c .before .before .suffix .ensures) in
+    let size : c .before .description-length .result ≡ length (descriptionRead k (wordsRead (lengthsOf k) s)) =
+    c .before .description-length .ensures ∙ ap (λ (t : List ℕ). length (descriptionRead k (wordsRead (lengthsOf k) t))) (c .before .before .suffix .ensures) in
     sym (item-read (a .low) (a .at) s k _ is selected first chains (λ e. c .if1 .left (size ∙ e)))
 
 pub check-item-spec : {M : Type 1} → statement M

@@ -10,8 +10,9 @@ use Rattle.buffer.specs.Room.{write}
 use Rattle.buffer.proofs.Writing.{wrote, too-short, Pending, pending-start, pending-store, pending-step, pending-end}
 use Rattle.command.specs.Reading.{number}
 use Rattle.compiler.specs.Items.{lengthsOf}
+use Rattle.compiler.specs.Chains.{wordsRead}
 use Rattle.reader.specs.Addresses.{slotAt, sectionAt}
-use Rattle.reader.specs.Judging.{itemWords, descriptionRead}
+use Rattle.reader.specs.Judging.{descriptionRead}
 use Rattle.reader.specs.Back.{labelFor, recordIn}
 use Rattle.reader.proofs.Written.{record-parts}
 use borrow.Author.Needs.{needs}
@@ -28,20 +29,20 @@ size c = c .record-size .ensures ∙ sym (c .before .before .before .pre .2)
 -- what is still to be written behind the slot, and behind the label
 after-slot : (c : tie.After-slot-at) → let a = c .before .before .before .before .before .before .args in let k = a .section in let item : List ℕ = now (a .item) in
     Pending (now (a .out)) (write 0 (recordIn item) (now (a .out))) 1
-    (labelFor k (slotAt k (number item)) ++ descriptionRead k (itemWords (lengthsOf k) item)) (set (now (a .out)) 0 (c .slot-at .result))
+    (labelFor k (slotAt k (number item)) ++ descriptionRead k (wordsRead (lengthsOf k) item)) (set (now (a .out)) 0 (c .slot-at .result))
 after-slot c =
     let a = c .before .before .before .before .before .before .args in
     let k = a .section in
     let item : List ℕ = now (a .item) in
     let slot : c .slot-at .result ≡ slotAt k (number item) = c .slot-at .ensures ∙ ap (slotAt k) (c .before .number-at .ensures) in
-    let rest = labelFor k (slotAt k (number item)) ++ descriptionRead k (itemWords (lengthsOf k) item) in
+    let rest = labelFor k (slotAt k (number item)) ++ descriptionRead k (wordsRead (lengthsOf k) item) in
     pending-store _ _ 0 (recordIn item) (c .slot-at .result) rest (now (a .out))
     (record-parts k item (c .before .before .before .before .before .before .pre .0) ∙ ap (λ (b : ℕ). b ∷ rest) (sym slot))
     (pending-start 0 (recordIn item) (now (a .out)) (omega (arith, size (c .before .before .before))))
 
 after-label : (c : tie.After-slice-known2) → let a = c .before .before .before .before .before .before .before .before .before .before .before .args in let k = a .section in let item : List ℕ = now (a .item) in
     let out : List ℕ = set (now (a .out)) 0 (c .before .before .before .before .before .slot-at .result) in
-    Pending (now (a .out)) (write 0 (recordIn item) (now (a .out))) 9 (descriptionRead k (itemWords (lengthsOf k) item))
+    Pending (now (a .out)) (write 0 (recordIn item) (now (a .out))) 9 (descriptionRead k (wordsRead (lengthsOf k) item))
     (putMid 1 (length out - 1) out (c .before .before .put-bytes .last .0))
 after-label c =
     let k = c .before .before .before .before .before .before .before .before .before .before .before .args .section in
@@ -95,10 +96,10 @@ put-description-requires c κs = search needs
 done : (c : tie.After-slice-known3) → let a = c .before .before .before .before .before .before .before .before .before .before .before .before .before .before .before .args in let k = a .section in let item : List ℕ = now (a .item) in
     let first : List ℕ = set (now (a .out)) 0 (c .before .before .before .before .before .before .before .before .before .slot-at .result) in
     let out : List ℕ = putMid 1 (length first - 1) first (c .before .before .before .before .before .before .put-bytes .last .0) in
-    Pending (now (a .out)) (write 0 (recordIn item) (now (a .out))) (9 + length (descriptionRead k (itemWords (lengthsOf k) item))) []
+    Pending (now (a .out)) (write 0 (recordIn item) (now (a .out))) (9 + length (descriptionRead k (wordsRead (lengthsOf k) item))) []
     (putMid 9 (length out - 9) out (c .before .before .put-description .last .0))
 done c =
-    let d = descriptionRead (c .before .before .before .before .before .before .before .before .before .before .before .before .before .before .before .args .section) (itemWords (lengthsOf (c .before .before .before .before .before .before .before .before .before .before .before .before .before .before .before .args .section)) (now (c .before .before .before .before .before .before .before .before .before .before .before .before .before .before .before .args .item))) in
+    let d = descriptionRead (c .before .before .before .before .before .before .before .before .before .before .before .before .before .before .before .args .section) (wordsRead (lengthsOf (c .before .before .before .before .before .before .before .before .before .before .before .before .before .before .before .args .section)) (now (c .before .before .before .before .before .before .before .before .before .before .before .before .before .before .before .args .item))) in
     pending-step _ _ 9 _ _ d [] _ _ _ (sym (append-nil d)) refl (after-label (c .before .before .before .before)) (c .before .before .put-description .ensures)
 
 same-length : tie.Need-same-length
