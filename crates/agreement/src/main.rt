@@ -1,8 +1,9 @@
-// The compiler's commands beside those of the second program (listings/), case by case, over the file `cases`.
-// Promises: it is safe and ends; what it says, how many cases there are and how many agree, is compared with the stored output.
-// Rests on: compiler (compile), check (bytes compared), os, io and libc (the file and the output).
+// The compiler's commands beside those of the second program (listings/), case by case, over the file `cases`; and the bench examples that are run.
+// Promises: it is safe and ends; what it says, how many cases there are, how many agree and what comes of each example, is compared with the stored output.
+// Rests on: compiler (compile), reader (read), sheet (check), check (bytes compared), os, io and libc (the file and the output).
 use libc::STDOUT_FILENO;
 
+mod bench;
 mod cases;
 mod tally;
 
@@ -16,4 +17,5 @@ fn main() {
     let tally = tally::compare_all(fd);
     libc::close(fd);
     tally::say(tally, STDOUT_FILENO);
+    bench::say_examples(STDOUT_FILENO);
 }

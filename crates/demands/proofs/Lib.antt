@@ -1,6 +1,9 @@
 pub mod BenchHolds
+pub mod Demand1
+pub mod Demand2
 pub mod Tellings
 pub mod SlotLines
+pub mod Demand3Words
 pub mod Demand3
 pub mod NoticeBytes
 pub mod NoticeLists

@@ -3,7 +3,7 @@ use Prim.Native.Nat.{ℕ, zero, suc, _+_, _≤_}
 use mathlib.Core.Path.{_≡_, refl}
 use mathlib.Core.List.{List, [], _∷_, _++_}
 use lib.Count.{ones, trailingZeros}
-use lib.ListN.{length, replicate}
+use lib.ListN.{length, take, replicate}
 use Rattle.buffer.specs.Bytes.{u32At, allWithin}
 use Rattle.buffer.specs.declared.Verdict.the-variants.{Accepted}
 use Rattle.lines.specs.Line.{flipLine, overLines}
@@ -24,6 +24,8 @@ use Rattle.sum.specs.Operation.{codesAccepted}
 use Rattle.notice.specs.Text as text
 use Rattle.notice.specs.Findings.{termFinding, rangeFinding, edgeFinding, sumFinding, findingOf, sharedLines, slotLines}
 use Rattle.notice.specs.Notice.{linesFrom, sectionsLines, noticeLines, noticeText}
+use Rattle.compiler.specs.Stream.{streamOf}
+use Rattle.compiler.proofs.Theorems as compiler
 use Rattle.demands.proofs.NoticeLists.{at-most-1756}
 
 -- n records from slot s on, each with this label byte throughout and this description
@@ -68,3 +70,14 @@ longest-sheet = sheet.at-most
 
 pub longest-sheet-reached : (verdict full ≡ Accepted) × (length full ≡ 1218)
 longest-sheet-reached = sheet.one-has
+
+-- 01: "A full sheet makes 2,360 bytes, the most there can be"
+pub most-commands : (s : List ℕ) → verdict s ≡ Accepted → length (streamOf (parse s)) ≤ 2360
+most-commands = compiler.at-most
+
+pub most-commands-reached : (verdict full ≡ Accepted) × (length (streamOf (parse full)) ≡ 2360)
+most-commands-reached = compiler.full-has
+
+-- a program that reads this much of a file judges all of it
+pub enough-of-a-sheet : (s : List ℕ) → verdict (take 1219 s) ≡ verdict s
+enough-of-a-sheet = sheet.enough

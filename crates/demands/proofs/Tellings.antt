@@ -5,7 +5,7 @@ use mathlib.Core.Bool.{Bool, true, false, not}
 use mathlib.Core.List.{List, []}
 use mathlib.Core.Logic.{_⊎_, inl, inr}
 use native.Mathlib.Omega.{arith}
-use Rattle.lut.specs.Telling.{HitAlike, HitAlike₂, SaysLeast, SaysOne, SaysTwo}
+use Rattle.lut.specs.Telling.{SaysLeast, SaysOne, SaysTwo}
 use Rattle.lut.specs.declared.Telling.{Telling}
 use Rattle.lut.specs.declared.Telling.the-variants.{Alike, One, Two}
 use Rattle.buffer.specs.Bytes.{Bytes}
@@ -22,7 +22,7 @@ use Rattle.edge.specs.Rule.{edgeAccepted, Accepted}
 use Rattle.edge.specs.Telling.{hits, tellingEdge}
 use Rattle.edge.proofs.Theorems as edge
 use Rattle.notice.specs.Findings.{rangeOf, edgeOf, told, termFinding, rangeFinding, edgeFinding, findingOf}
-use Rattle.demands.specs.Apart.{InputTells}
+use Rattle.demands.specs.Apart.{SampleTells, SamplesTell, InputTells}
 
 -- the telling of two descriptions of section k
 abbrev pub tellingAt : (k : ℕ) (old new : List ℕ) → Telling
@@ -40,18 +40,18 @@ finding-told (suc (suc (suc k))) d e h = absurd (omega arith)
 
 -- ---- acceptance
 
-field-small : (d : List ℕ) (i : ℕ) → Bytes d → fieldOf d i < 2 ^ 32
+pub field-small : (d : List ℕ) (i : ℕ) → Bytes d → fieldOf d i < 2 ^ 32
 field-small d i b = u32-small d _ b
 
 clear : (b : Bool) → faultIf (not b) 9 0 ≡ 0 → b ≡ true
 clear true e = refl
 clear false e = absurd (omega arith)
 
-range-accepted : (d : List ℕ) → Bytes d → descriptionFault 1 d ≡ 0 → RangeAccepted (fieldOf d 0) (fieldOf d 1) (fieldOf d 2)
+pub range-accepted : (d : List ℕ) → Bytes d → descriptionFault 1 d ≡ 0 → RangeAccepted (fieldOf d 0) (fieldOf d 1) (fieldOf d 2)
 unfolding descriptionFault rowOf rangeFaultOf
 range-accepted d b e = fault-0 (fieldOf d 0) (fieldOf d 1) (fieldOf d 2) (field-small d 2 b) .0 e
 
-edge-accepted : (d : List ℕ) → Bytes d → descriptionFault 2 d ≡ 0 → Accepted (fieldOf d 0) (fieldOf d 1) (fieldOf d 2)
+pub edge-accepted : (d : List ℕ) → Bytes d → descriptionFault 2 d ≡ 0 → Accepted (fieldOf d 0) (fieldOf d 1) (fieldOf d 2)
 unfolding descriptionFault rowOf edgeFaultOf
 edge-accepted d b e =
     record {
@@ -63,41 +63,38 @@ edge-accepted d b e =
 
 -- ---- what a telling decides: no input tells the two apart, or this one does
 
+-- of one sample, over any two rules of a hit
+module _ (f g : ℕ → Bool) where
+  sample-decides : (t : Telling) → SaysOne f g t → ((t ≡ Alike) × ((i : Telling) → SampleTells f g i → ⊥)) ⊎ SampleTells f g t
+  sample-decides Alike h = inl (refl, none)
+    where
+      none : (i : Telling) → SampleTells f g i → ⊥
+      none Alike w = w
+      none (One s) w = w .tells (h s (w .fits))
+      none (Two x y) w = w
+  sample-decides (One s) h = inr h
+  sample-decides (Two x y) h = absurd h
+
+  -- the least that tells is one that tells
+  least-one : (t : Telling) → SaysLeast f g t → SaysOne f g t
+  least-one Alike h = h
+  least-one (One s) h = h .apart
+  least-one (Two x y) h = absurd h
+
+-- of two samples
+module _ (f g : ℕ → ℕ → Bool) where
+  samples-decide : (t : Telling) → SaysTwo f g t → ((t ≡ Alike) × ((i : Telling) → SamplesTell f g i → ⊥)) ⊎ SamplesTell f g t
+  samples-decide Alike h = inl (refl, none)
+    where
+      none : (i : Telling) → SamplesTell f g i → ⊥
+      none Alike w = w
+      none (One s) w = w
+      none (Two x y) w = w .tells (h x y (w .fits-earlier) (w .fits-later))
+  samples-decide (One s) h = absurd h
+  samples-decide (Two x y) h = inr h
+
 unfoldable pub Decides : (k : ℕ) (old new : List ℕ) → Telling → Type 0
 Decides k d e t = ((t ≡ Alike) × ((i : Telling) → InputTells k d e i → ⊥)) ⊎ InputTells k d e t
-
-term-decides : (d e : List ℕ) (t : Telling) → SaysLeast (termHit (fieldOf d 0) (fieldOf d 1)) (termHit (fieldOf e 0) (fieldOf e 1)) t → Decides 0 d e t
-unfolding Decides
-term-decides d e Alike h = inl (refl, none)
-  where
-    none : (i : Telling) → InputTells 0 d e i → ⊥
-    none Alike w = w
-    none (One s) w = w .tells (h s (w .fits))
-    none (Two x y) w = w
-term-decides d e (One s) h = inr (h .apart)
-term-decides d e (Two x y) h = absurd h
-
-range-decides : (d e : List ℕ) (t : Telling) → SaysOne (hitOf (rangeOf d)) (hitOf (rangeOf e)) t → Decides 1 d e t
-unfolding Decides
-range-decides d e Alike h = inl (refl, none)
-  where
-    none : (i : Telling) → InputTells 1 d e i → ⊥
-    none Alike w = w
-    none (One s) w = w .tells (h s (w .fits))
-    none (Two x y) w = w
-range-decides d e (One s) h = inr h
-range-decides d e (Two x y) h = absurd h
-
-edge-decides : (d e : List ℕ) (t : Telling) → SaysTwo (hits (edgeOf d)) (hits (edgeOf e)) t → Decides 2 d e t
-unfolding Decides
-edge-decides d e Alike h = inl (refl, none)
-  where
-    none : (i : Telling) → InputTells 2 d e i → ⊥
-    none Alike w = w
-    none (One s) w = w
-    none (Two x y) w = w .tells (h x y (w .fits-earlier) (w .fits-later))
-edge-decides d e (One s) h = absurd h
-edge-decides d e (Two x y) h = inr h
 
 -- of patterns, the least
 pub least : (d e : List ℕ) → Bytes d → Bytes e
@@ -108,22 +105,33 @@ least d e bd be =
 
 pub decides : (k : ℕ) (d e : List ℕ) → k < 3 → Bytes d → Bytes e → descriptionFault k d ≡ 0 → descriptionFault k e ≡ 0
     → Decides k d e (tellingAt k d e)
-decides zero d e h bd be fd fe = term-decides d e _ (least d e bd be)
+unfolding Decides
+decides zero d e h bd be fd fe = sample-decides f g (tellingAt 0 d e) (least-one f g (tellingAt 0 d e) (least d e bd be))
+  where
+    f : ℕ → Bool
+    f = termHit (fieldOf d 0) (fieldOf d 1)
+
+    g : ℕ → Bool
+    g = termHit (fieldOf e 0) (fieldOf e 1)
 decides (suc zero) d e h bd be fd fe =
-    range-decides d e _ (range.range-telling (rangeOf d) (rangeOf e) (range-accepted d bd fd) (range-accepted e be fe))
+    sample-decides (hitOf (rangeOf d)) (hitOf (rangeOf e)) (tellingAt 1 d e) (range.range-telling (rangeOf d) (rangeOf e) (range-accepted d bd fd) (range-accepted e be fe))
 decides (suc (suc zero)) d e h bd be fd fe =
-    edge-decides d e _ (edge.telling-tells (edgeOf d) (edgeOf e) (edge-accepted d bd fd) (edge-accepted e be fe))
+    samples-decide (hits (edgeOf d)) (hits (edgeOf e)) (tellingAt 2 d e) (edge.telling-tells (edgeOf d) (edgeOf e) (edge-accepted d bd fd) (edge-accepted e be fe))
 decides (suc (suc (suc k))) d e h bd be fd fe = absurd (omega arith)
 
 -- no input tells a description from itself
+sample-not-itself : (f : ℕ → Bool) (i : Telling) → SampleTells f f i → ⊥
+sample-not-itself f Alike w = w
+sample-not-itself f (One s) w = w .tells refl
+sample-not-itself f (Two x y) w = w
+
+samples-not-itself : (f : ℕ → ℕ → Bool) (i : Telling) → SamplesTell f f i → ⊥
+samples-not-itself f Alike w = w
+samples-not-itself f (One s) w = w
+samples-not-itself f (Two x y) w = w .tells refl
+
 pub not-itself : (k : ℕ) (d : List ℕ) (i : Telling) → InputTells k d d i → ⊥
-not-itself zero d Alike w = w
-not-itself zero d (One s) w = w .tells refl
-not-itself zero d (Two x y) w = w
-not-itself (suc zero) d Alike w = w
-not-itself (suc zero) d (One s) w = w .tells refl
-not-itself (suc zero) d (Two x y) w = w
-not-itself (suc (suc zero)) d Alike w = w
-not-itself (suc (suc zero)) d (One s) w = w
-not-itself (suc (suc zero)) d (Two x y) w = w .tells refl
+not-itself zero d i w = sample-not-itself (termHit (fieldOf d 0) (fieldOf d 1)) i w
+not-itself (suc zero) d i w = sample-not-itself (hitOf (rangeOf d)) i w
+not-itself (suc (suc zero)) d i w = samples-not-itself (hits (edgeOf d)) i w
 not-itself (suc (suc (suc k))) d i w = w

@@ -11,9 +11,9 @@ pub(crate) fn section_at(address: u32) -> usize
 {
     match address {
         0x20..=0x29 => 0,
-        0x30..=0x33 => { if address % 2 == 0 { 1 } else { SECTIONS } }
+        0x30..=0x33 => if address % 2 == 0 { 1 } else { SECTIONS },
         0x34..=0x35 => 2,
-        0x40..=0x7F => { if address % 4 == 3 { SECTIONS } else { 3 } }
+        0x40..=0x7F => if address % 4 == 3 { SECTIONS } else { 3 },
         _ => SECTIONS,
     }
 }

@@ -1,0 +1,56 @@
+// The bench examples that are run: each line says what is handed in and what comes of it.
+use buffer::Outcome;
+use buffer::Verdict;
+
+const LONGEST_SHEET: usize = 1218;
+
+fn say_refused(out: i32, number: u8, place: usize) {
+    io::print_decimal(out, number as u64);
+    io::write_all(out, b" at ");
+    io::print_decimal(out, place as u64);
+}
+
+fn say_sheet(out: i32, what: &[u8], sheet: &[u8]) {
+    io::write_all(out, what);
+    io::write_all(out, b": ");
+    match sheet::check(sheet) {
+        Verdict::Accepted => {
+            io::write_all(out, b"accepted");
+        }
+        Verdict::Refused(number, place) => say_refused(out, number, place),
+    }
+    io::write_all(out, b"\n");
+}
+
+// The reader's answer, and the sheet's length where there is one.
+fn say_stream(out: i32, what: &[u8], stream: &[u8]) {
+    let mut room = [0u8; LONGEST_SHEET];
+    io::write_all(out, what);
+    io::write_all(out, b": ");
+    match reader::read(stream, &mut room) {
+        Outcome::Done(length) => {
+            io::print_decimal(out, length as u64);
+            io::write_all(out, b" bytes");
+        }
+        Outcome::Refused(number, place) => say_refused(out, number, place),
+    }
+    io::write_all(out, b"\n");
+}
+
+pub(crate) fn say_examples(out: i32) {
+    // One range in slot 0 with a label of spaces.
+    say_sheet(
+        out,
+        b"range 1..FFFFFFFF, mask FFFFFFFF",
+        b"\x00\x01\x00        \x01\x00\x00\x00\xFF\xFF\xFF\xFF\xFF\xFF\xFF\xFF\x00\x00",
+    );
+    say_stream(out, b"no bytes", b"");
+    say_stream(out, b"1 byte", b"\x9E");
+    say_stream(out, b"2 bytes", b"\x9E\x20");
+    say_stream(out, b"3 bytes", b"\x9E\x20\x00");
+    say_stream(out, b"4 bytes", b"\x9E\x20\x00\x00");
+    say_stream(out, b"9F first", b"\x9F\x20\x00\x00\x00");
+    say_stream(out, b"select 43", b"\x9E\x43\x00\x00\x00");
+    say_stream(out, b"select 120", b"\x9E\x20\x01\x00\x00");
+    say_stream(out, b"select 31 first", b"\x9E\x31\x00\x00\x00");
+}
