@@ -1,0 +1,56 @@
+// The command line on a table of cases: the file args has one word to a line, and a line `--` after each case.
+// Promises: it is safe and ends. Complaints go to standard output too, so that the file stdout holds both.
+// Rests on: cli (what is run), reader and term (two refusals that no command line meets), io and os.
+use buffer::Outcome;
+use lut::Answer;
+
+fn main() {
+    run_table(os::arg_count());
+    short_room();
+    wrong_count();
+}
+
+fn run_table(last: usize) {
+    let mut first: usize = 1;
+    let mut i: usize = 1;
+    while i < last {
+        if ends_case(first, i) {
+            first = i + 1;
+        }
+        i += 1;
+    }
+}
+
+// Where argument i is `--`, runs the case that the arguments from first to i make.
+fn ends_case(first: usize, i: usize) -> bool {
+    let mut buf = io::buffer();
+    let n = os::arg(i, &mut buf);
+    if !buffer::same_bytes(&buf[..n], b"--") {
+        return false;
+    }
+    cli::run(first, i, 1, 1);
+    io::write_all(1, b"--\n");
+    true
+}
+
+// 12: the program's own room is never too short.
+fn short_room() {
+    let stream = [0u8; 1];
+    let mut room = [0u8; 3];
+    io::write_all(1, b"a room of 3 bytes: ");
+    match reader::read(&stream[0..0], &mut room) {
+        Outcome::Done(_) => {}
+        Outcome::Refused(number, place) => cli::refusal(number, place, 1),
+    }
+}
+
+// 17: the program runs no chain words.
+fn wrong_count() {
+    let words = [0u32; 3];
+    io::write_all(1, b"three words for a term: ");
+    match term::run_term(&words, 0) {
+        Answer::Hit => {}
+        Answer::Miss => {}
+        Answer::WrongCount(needed) => cli::refusal(17, needed, 1),
+    }
+}
