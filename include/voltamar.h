@@ -1,0 +1,88 @@
+/* The static library of crates/voltamar_c: link libvoltamar_c.a, which `rt staticlib voltamar_c` writes to target/staticlib.
+ *
+ * What each call promises is proved, for every input: there is no input that it may not be given.
+ *
+ * ANSWERS. A call that returns uint8_t returns 0 for done, or the number of the refusal:
+ *
+ *     1 count or record incomplete        7 lower bound above upper                  13 stream ends inside a command or item
+ *     2 count above the section's most    8 upper bound too big for the mask         14 opcode other than the one due
+ *     3 slot too big                      9 neither with rise or fall on a line      15 address unknown, not rising, or not the one due
+ *     4 slot not rising                  10 operation above 9                        16 words that no accepted description writes
+ *     5 bad label byte                   11 bytes left over                          17 wrong word count
+ *     6 lower bound is 0                 12 output too short
+ *
+ * Each call writes through each of its pointers, whatever it returns. *place is, for a refusal, the offset of the count, record,
+ * byte, command or item that is refused; for 12 the bytes needed, for 17 the words needed. Where a call is done, what *place
+ * is stands beside it below.
+ *
+ * ROOM. A call with out and room writes at the start of out. A refused call, 12 too, leaves all of out as it was; a call that is
+ * done leaves the bytes beyond the length it gives as they were. The three lengths below are room enough for any input.
+ *
+ * WHAT THE CALLER OWES, since nothing here can test it: a pointer is good for as many bytes or words as the length beside it says
+ * (with a length of 0 it may be NULL), and the others are good for the one value they point to; what is written through
+ * (out, place, which, start, length, hit) overlaps nothing else that is handed over; and no other thread writes what is handed
+ * over, or reads what is written, during the call. The calls keep no state and allocate nothing; of the C library they
+ * need memcpy and memset. */
+#ifndef VOLTAMAR_H
+#define VOLTAMAR_H
+
+#include <stdbool.h>
+#include <stddef.h>
+#include <stdint.h>
+
+#ifdef __cplusplus
+extern "C" {
+#endif
+
+#define VOLTAMAR_LONGEST_SHEET 1218
+#define VOLTAMAR_LONGEST_STREAM 2360
+#define VOLTAMAR_LONGEST_NOTICE 1756
+
+/* ---- sheets and streams */
+
+/* Judges a sheet. Accepted: 0, and *place is 0. Refused: 1 to 11, the first fault from the left. */
+uint8_t voltamar_check(const uint8_t *sheet, size_t n, size_t *place);
+
+/* Where the records of one section lie in the sheet, without their count: sheet[*start] is the first byte, *length says how many.
+ * Sections: 0 terms, 1 ranges, 2 edges, 3 sums. Returns what voltamar_check returns, for the whole sheet. *start and *length are
+ * both 0 where the part is empty: a refused sheet, a section without records, a number above 3. */
+uint8_t voltamar_section(const uint8_t *sheet, size_t n, uint8_t number, size_t *start, size_t *length);
+
+/* Writes the sheet's commands to out, by rising address. Done: 0, and *place is their length. Refused: the sheet's refusal, or 12. */
+uint8_t voltamar_compile(const uint8_t *sheet, size_t n, uint8_t *out, size_t room, size_t *place);
+
+/* Writes to out the sheet that the command stream sets up, with labels of eight spaces and targets cut to their masks. Done: 0, and
+ * *place is its length. Refused: 13 to 16, the first fault from the left, or 12. A stream is accepted exactly if some accepted
+ * sheet compiles to it. An empty stream gives the sheet of four zero bytes. */
+uint8_t voltamar_read(const uint8_t *stream, size_t n, uint8_t *out, size_t room, size_t *place);
+
+/* Writes the alteration notice of two sheets to out. Done: 0, *which is 0, and *place is the notice's length. Refused: the old
+ * sheet's refusal with *which 1, else the new sheet's with *which 2, else 12 with *which 0. */
+uint8_t voltamar_notice(const uint8_t *old_sheet, size_t n, const uint8_t *new_sheet, size_t k, uint8_t *out, size_t room,
+                        uint8_t *which, size_t *place);
+
+/* ---- samples */
+
+/* The sample's masked lines as a number: the lowest masked line is bit 0, the next bit 1, and so on. */
+uint32_t voltamar_gather(uint32_t sample, uint32_t mask);
+
+/* The model: chain words in sending order, any values, run as the recorder runs them. A term has 4 words, a range 32 (the lower chain
+ * first), an edge 8, a sum 6. Run: 0, *hit is 1 for a hit and 0 for a miss, and *place is 0. Refused: 17, *hit is 0, and
+ * *place is the count needed. A sum's sources: bits 0 to 9 terms a to j, then range 1, range 2, edge 1, edge 2, timer 1,
+ * timer 2. */
+uint8_t voltamar_run_term(const uint32_t *words, size_t n, uint32_t sample, uint8_t *hit, size_t *place);
+uint8_t voltamar_run_range(const uint32_t *words, size_t n, uint32_t sample, uint8_t *hit, size_t *place);
+uint8_t voltamar_run_edge(const uint32_t *words, size_t n, uint32_t earlier, uint32_t later, uint8_t *hit, size_t *place);
+uint8_t voltamar_run_sum(const uint32_t *words, size_t n, uint16_t sources, uint8_t *hit, size_t *place);
+
+/* The plain rules of a hit. A term hits when each line that the mask has set has the target's value; a range when lower <= gathered
+ * <= upper; an edge when some line does what is asked for it: rise (earlier 0, later 1), fall (1, 0), neither (equal). */
+bool voltamar_term_hit(uint32_t target, uint32_t mask, uint32_t sample);
+bool voltamar_range_hit(uint32_t lower, uint32_t upper, uint32_t mask, uint32_t sample);
+bool voltamar_edge_hit(uint32_t rise, uint32_t fall, uint32_t neither, uint32_t earlier, uint32_t later);
+
+#ifdef __cplusplus
+}
+#endif
+
+#endif
