@@ -1,0 +1,164 @@
+/* Calls each function of the static library from C: examples of the rules, and that a refused call writes nothing, a call that is done
+ * nothing beyond its length. Run by .ci/run in the repository's folder. */
+#include "voltamar.h"
+
+#include <stdio.h>
+#include <string.h>
+
+static int failures;
+
+static void expect(int ok, const char *what) {
+    if (!ok) {
+        fprintf(stderr, "library.c: %s\n", what);
+        failures++;
+    }
+}
+
+enum { SPACE = 4096, UNTOUCHED = 0xA5 };
+
+/* the bytes of a file of examples/, and how many */
+static size_t load(const char *name, uint8_t bytes[SPACE]) {
+    char path[64];
+    snprintf(path, sizeof path, "examples/%s", name);
+    FILE *file = fopen(path, "rb");
+    if (file == NULL) {
+        expect(0, path);
+        return 0;
+    }
+    size_t n = fread(bytes, 1, SPACE, file);
+    fclose(file);
+    return n;
+}
+
+/* whether out holds these bytes, and beyond them nothing was written */
+static int holds(const uint8_t out[SPACE], const uint8_t *bytes, size_t n) {
+    for (size_t i = n; i < SPACE; i++) {
+        if (out[i] != UNTOUCHED) return 0;
+    }
+    return n == 0 || memcmp(out, bytes, n) == 0;
+}
+
+static uint8_t out[SPACE], old_sheet[SPACE], new_sheet[SPACE], lift[SPACE], wanted[SPACE];
+static size_t old_length, new_length, lift_length, wanted_length;
+
+static void clear(void) { memset(out, UNTOUCHED, SPACE); }
+
+/* a range 0..9 over four lines: refusal 6 at the record, offset 2 */
+static const uint8_t lower_zero[25] = {0, 1, 0, 'R', 'A', 'N', 'G', 'E', ' ', ' ', ' ', 0, 0, 0, 0, 9, 0, 0, 0, 15};
+
+static void check_and_section(void) {
+    size_t place = 99, start = 99, length = 99;
+    expect(voltamar_check(old_sheet, old_length, &place) == 0 && place == 0, "check: accepted");
+    expect(voltamar_check(lower_zero, 25, &place) == 6 && place == 2, "check: refused");
+    expect(voltamar_check(NULL, 0, &place) == 1 && place == 0, "check: no bytes at all");
+
+    expect(voltamar_section(old_sheet, old_length, 0, &start, &length) == 0 && start == 1 && length == 34, "section: terms");
+    expect(voltamar_section(old_sheet, old_length, 1, &start, &length) == 0 && start == 36 && length == 21, "section: ranges");
+    start = length = 99;
+    expect(voltamar_section(old_sheet, old_length, 2, &start, &length) == 0 && start == 0 && length == 0, "section: empty");
+    start = length = 99;
+    expect(voltamar_section(old_sheet, old_length, 4, &start, &length) == 0 && start == 0 && length == 0, "section: above 3");
+    start = length = 99;
+    expect(voltamar_section(lower_zero, 25, 1, &start, &length) == 6 && start == 0 && length == 0, "section: refused");
+}
+
+static void compile_and_read(void) {
+    size_t place = 99;
+    wanted_length = load("lift.commands", wanted);
+    clear();
+    expect(voltamar_compile(lift, lift_length, out, SPACE, &place) == 0 && place == wanted_length, "compile: length");
+    expect(holds(out, wanted, wanted_length), "compile: the commands, and nothing beyond");
+    clear();
+    expect(voltamar_compile(lift, lift_length, out, wanted_length - 1, &place) == 12 && place == wanted_length, "compile: 12");
+    expect(holds(out, NULL, 0), "compile: 12 writes nothing");
+    expect(voltamar_compile(lower_zero, 25, out, SPACE, &place) == 6 && place == 2 && holds(out, NULL, 0), "compile: refused");
+
+    uint8_t stream[SPACE];
+    size_t stream_length = load("lift.commands", stream);
+    wanted_length = load("lift.back", wanted);
+    expect(voltamar_read(stream, stream_length, out, SPACE, &place) == 0 && place == wanted_length, "read: length");
+    expect(holds(out, wanted, wanted_length), "read: the sheet, and nothing beyond");
+    clear();
+    expect(voltamar_read(stream, stream_length, out, 3, &place) == 12 && place == wanted_length, "read: 12");
+    expect(voltamar_read(stream, stream_length - 1, out, SPACE, &place) == 13 && place == stream_length - 5, "read: 13");
+    stream[0] = 0x9F;
+    expect(voltamar_read(stream, stream_length, out, SPACE, &place) == 14 && place == 0, "read: 14");
+    stream[0] = 0x9E;
+    stream[1] = 0x43;
+    expect(voltamar_read(stream, stream_length, out, SPACE, &place) == 15 && place == 0, "read: 15");
+    stream[1] = 0x20;
+    memset(stream + 5, 0, 20);
+    stream[5] = stream[10] = stream[15] = stream[20] = 0x9F;
+    expect(voltamar_read(stream, stream_length, out, SPACE, &place) == 16 && place == 0, "read: 16");
+    expect(holds(out, NULL, 0), "read: refusals write nothing");
+    expect(voltamar_read(NULL, 0, out, SPACE, &place) == 0 && place == 4, "read: an empty stream");
+    expect(holds(out, (const uint8_t[4]){0, 0, 0, 0}, 4), "read: four zero bytes");
+}
+
+static void notices(void) {
+    const char *text = "TERM 00 NAME\nTERM 01 ALTR 00000004\nTERM 02 NEW\nRANG 00 GONE\n";
+    uint8_t which = 99;
+    size_t place = 99;
+    clear();
+    expect(voltamar_notice(old_sheet, old_length, lower_zero, 25, out, SPACE, &which, &place) == 6 && which == 2 && place == 2,
+           "notice: the new sheet is refused");
+    expect(voltamar_notice(lower_zero, 25, NULL, 0, out, SPACE, &which, &place) == 6 && which == 1 && place == 2,
+           "notice: the old sheet speaks first");
+    expect(voltamar_notice(old_sheet, old_length, new_sheet, new_length, out, 59, &which, &place) == 12 && which == 0 && place == 60,
+           "notice: 12 is of neither");
+    expect(holds(out, NULL, 0), "notice: refusals write nothing");
+    which = 99;
+    expect(voltamar_notice(old_sheet, old_length, new_sheet, new_length, out, 60, &which, &place) == 0 && which == 0 && place == 60,
+           "notice: length");
+    expect(holds(out, (const uint8_t *)text, 60), "notice: the example of the rules");
+    expect(voltamar_notice(lift, lift_length, lift, lift_length, NULL, 0, &which, &place) == 0 && place == 0, "notice: nothing altered");
+}
+
+static void model(void) {
+    uint32_t term[4] = {0xFFFFFFFF, 0xFFFFFFFF, 0xFFFFFFFF, 0xFFFF0020}, range[32], edge[8] = {0}, sum[6] = {0x0008, 0xFFFFFFFF};
+    uint8_t hit = 99;
+    size_t place = 99;
+    for (int i = 0; i < 32; i++) range[i] = 0xFFFFFFFF;
+    range[14] = 0x55555555, range[15] = 0xAAAA5555; /* 3..9 over four lines: the lower chain, then the upper */
+    range[30] = 0xAAAA5555, range[31] = 0x5555AAAA;
+    edge[7] = 0x00000A0A; /* rise on line 0 */
+
+    expect(voltamar_run_term(term, 4, 0xFFFFFFF5, &hit, &place) == 0 && hit == 1 && place == 0, "run_term: hit");
+    expect(voltamar_run_term(term, 4, 4, &hit, &place) == 0 && hit == 0 && place == 0, "run_term: miss");
+    hit = 99;
+    expect(voltamar_run_term(term, 3, 5, &hit, &place) == 17 && hit == 0 && place == 4, "run_term: 17");
+    expect(voltamar_run_range(range, 32, 0x13, &hit, &place) == 0 && hit == 1 && place == 0, "run_range: hit");
+    expect(voltamar_run_range(range, 32, 2, &hit, &place) == 0 && hit == 0 && place == 0, "run_range: below");
+    expect(voltamar_run_range(range, 32, 10, &hit, &place) == 0 && hit == 0 && place == 0, "run_range: above");
+    expect(voltamar_run_range(range, 31, 3, &hit, &place) == 17 && hit == 0 && place == 32, "run_range: 17");
+    expect(voltamar_run_edge(edge, 8, 2, 3, &hit, &place) == 0 && hit == 1 && place == 0, "run_edge: hit");
+    expect(voltamar_run_edge(edge, 8, 3, 2, &hit, &place) == 0 && hit == 0 && place == 0, "run_edge: miss");
+    expect(voltamar_run_edge(edge, 9, 2, 3, &hit, &place) == 17 && hit == 0 && place == 8, "run_edge: 17");
+    expect(voltamar_run_sum(sum, 6, 0, &hit, &place) == 0 && hit == 1 && place == 0, "run_sum: final AND of two that answer always");
+    sum[1] = 0xFFFF0000;
+    expect(voltamar_run_sum(sum, 6, 0xFFFF, &hit, &place) == 0 && hit == 0 && place == 0, "run_sum: mid1 never");
+    expect(voltamar_run_sum(NULL, 0, 0, &hit, &place) == 17 && hit == 0 && place == 6, "run_sum: 17");
+}
+
+static void rules(void) {
+    expect(voltamar_gather(0x0880, 0x8A80) == 5, "gather");
+    expect(voltamar_term_hit(5, 15, 0x25) && !voltamar_term_hit(5, 15, 4) && voltamar_term_hit(5, 0, 4), "term_hit");
+    expect(!voltamar_range_hit(3, 9, 15, 2) && voltamar_range_hit(3, 9, 15, 3), "range_hit at lower");
+    expect(voltamar_range_hit(3, 9, 15, 9) && !voltamar_range_hit(3, 9, 15, 10), "range_hit at upper");
+    expect(voltamar_edge_hit(1, 0, 0, 0, 1) && !voltamar_edge_hit(1, 0, 0, 1, 0), "edge_hit: rise");
+    expect(voltamar_edge_hit(0, 1, 0, 1, 0) && voltamar_edge_hit(0, 0, 1, 1, 1), "edge_hit: fall, neither");
+    expect(!voltamar_edge_hit(0, 0, 0, 1, 0), "edge_hit: nothing asked");
+}
+
+int main(void) {
+    old_length = load("old.sheet", old_sheet);
+    new_length = load("new.sheet", new_sheet);
+    lift_length = load("lift.sheet", lift);
+    check_and_section();
+    compile_and_read();
+    notices();
+    model();
+    rules();
+    if (failures == 0) puts("library.c: ok");
+    return failures != 0;
+}
