@@ -6,7 +6,7 @@ ghost use Rattle.cli.specs.Decimal.{isDecimal, sectionAsked};
 use sheet::SECTIONS;
 
 // Whether a word is a number in decimal.
-pub fn is_decimal(word: &[u8]) -> bool
+pub(crate) fn is_decimal(word: &[u8]) -> bool
     ensures { λ r. ⌜ r ≡ isDecimal (now (word .entry)) ⌝ }
 {
     if word.len() == 0 {
@@ -31,7 +31,7 @@ fn capped(number: usize) -> usize
 }
 
 // The section that a number in decimal asks for. A number above the last one's is not told apart from SECTIONS.
-pub fn section_asked(word: &[u8]) -> usize
+pub(crate) fn section_asked(word: &[u8]) -> usize
     ensures { λ r. ⌜ r ≡ sectionAsked (now (word .entry)) ⌝ }
 {
     let mut number: usize = 0;

@@ -4,13 +4,13 @@ use crate::say;
 
 // What came of reading a file: whether it could be read, and how many bytes stand at the start of the buffer: the whole file
 // or, where it is longer than the buffer, its start.
-pub struct Input {
+pub(crate) struct Input {
     pub is_read: bool,
     pub count: usize,
 }
 
 // Reads the file that argument `arg` names into `buf`, or says on `err` why it cannot.
-pub fn load_named(arg: usize, buf: &mut [u8], err: i32) -> Input
+pub(crate) fn load_named(arg: usize, buf: &mut [u8], err: i32) -> Input
     ensures { λ r. ⌜ Counts (r .count) (now (buf .exit)) ⌝ }
 {
     let mut path = io::buffer();

@@ -1,7 +1,7 @@
 // What the program says. Each complaint is one line, and starts with the name of the file that it is about.
 
 // The file that argument `arg` names was refused.
-pub fn refused(arg: usize, number: u8, place: usize, err: i32) {
+pub(crate) fn refused(arg: usize, number: u8, place: usize, err: i32) {
     name(arg, err);
     io::write_all(err, b": ");
     refusal(number, place, err);
@@ -50,7 +50,7 @@ fn of_stream(number: u8, fd: i32) -> bool {
 }
 
 // The file that argument `arg` names could not be opened or read.
-pub fn failed(arg: usize, error: i32, err: i32) {
+pub(crate) fn failed(arg: usize, error: i32, err: i32) {
     name(arg, err);
     reason(error, err);
 }
@@ -70,7 +70,7 @@ fn reason(error: i32, err: i32) {
 }
 
 // Argument `arg` should be a section's number.
-pub fn no_number(arg: usize, err: i32) {
+pub(crate) fn no_number(arg: usize, err: i32) {
     name(arg, err);
     io::write_all(err, b": not a section's number\n");
 }
@@ -88,20 +88,20 @@ fn name(arg: usize, fd: i32) {
 }
 
 // The sheet that argument `arg` names is accepted.
-pub fn accepted(arg: usize, out: i32, err: i32) {
+pub(crate) fn accepted(arg: usize, out: i32, err: i32) {
     name(arg, out);
     bytes(b": accepted\n", out, err);
 }
 
 // Writes a result to `out`, or says on `err` that it could not.
-pub fn bytes(result: &[u8], out: i32, err: i32) {
+pub(crate) fn bytes(result: &[u8], out: i32, err: i32) {
     if !io::write_all(out, result) {
         io::write_all(err, b"standard output: cannot be written\n");
     }
 }
 
 // How the program is called.
-pub fn usage(fd: i32, err: i32) {
+pub(crate) fn usage(fd: i32, err: i32) {
     bytes(
         b"usage: voltamar check SHEET\n       voltamar section SHEET N\n       voltamar compile SHEET\n       voltamar read STREAM\n       voltamar notice OLD NEW\n       voltamar help\n",
         fd,
