@@ -3,7 +3,8 @@ pub mod Demand1
 pub mod Demand2
 pub mod Tellings
 pub mod SlotLines
-pub mod Demand3Words
+pub mod EqualWords
+pub mod AlterationLines
 pub mod Demand3
 pub mod NoticeBytes
 pub mod NoticeLists

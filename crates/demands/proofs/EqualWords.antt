@@ -1,5 +1,5 @@
--- DEMAND 3, its sentences on chain words: "Take any two accepted descriptions of one kind, pattern, range or edge." A description's
--- chain words are `chainWordsOf`, the numbers of the load commands that the compiler writes for it. Assumes nothing.
+-- Equal chain words and equal behaviour, of two accepted descriptions of one kind. A description's chain words are `chainWordsOf`,
+-- the numbers of the load commands that the compiler writes for it. Assumes nothing.
 use Prim.Native.Nat.{ℕ, _^_, _<_}
 use mathlib.Core.Path.{_≡_, refl, sym, ap, _∙_}
 use mathlib.Core.List.{List, [], _++_, append-nil, flatten}
@@ -40,30 +40,30 @@ edge-words : (d : List ℕ) → chainWordsOf 2 d ≡ edgeWords (fieldOf d 0) (fi
 unfolding chainsOf kindOf flatten
 edge-words d = append-nil _
 
--- ---- the sentences
+-- ---- the laws
 
--- "Two patterns .. have equal chain words exactly when they hit alike on every input."
-pub equal-pattern-words-iff-alike : (d e : List ℕ) → AcceptedDescription 0 d → AcceptedDescription 0 e
+-- patterns
+pub patterns-alike : (d e : List ℕ) → AcceptedDescription 0 d → AcceptedDescription 0 e
     → (chainWordsOf 0 d ≡ chainWordsOf 0 e) ↔ HitAlike (termHit (fieldOf d 0) (fieldOf d 1)) (termHit (fieldOf e 0) (fieldOf e 1))
-equal-pattern-words-iff-alike d e a b =
+patterns-alike d e a b =
     let bd = description-bytes 0 d a in
     let be = description-bytes 0 e b in
     let t = term.equal-words-iff-alike (fieldOf d 0) (fieldOf d 1) (fieldOf e 0) (fieldOf e 1) (field-small d 0 bd) (field-small d 1 bd)
     (field-small e 0 be) (field-small e 1 be) in
     ((λ q. t .0 (sym (pattern-words d) ∙ q ∙ pattern-words e)), (λ h. pattern-words d ∙ t .1 h ∙ sym (pattern-words e)))
 
--- "or two edges"
-pub equal-edge-words-iff-alike : (d e : List ℕ) → AcceptedDescription 2 d → AcceptedDescription 2 e
+-- edges
+pub edges-alike : (d e : List ℕ) → AcceptedDescription 2 d → AcceptedDescription 2 e
     → (chainWordsOf 2 d ≡ chainWordsOf 2 e) ↔ HitAlike₂ (hits (edgeOf d)) (hits (edgeOf e))
-equal-edge-words-iff-alike d e a b =
+edges-alike d e a b =
     let t = edge.equal-words-hit-alike (edgeOf d) (edgeOf e) (edge-accepted d (description-bytes 2 d a) (description-sound 2 d a .1))
     (edge-accepted e (description-bytes 2 e b) (description-sound 2 e b .1)) in
     ((λ q. t .0 (sym (edge-words d) ∙ q ∙ edge-words e)), (λ h. edge-words d ∙ t .1 h ∙ sym (edge-words e)))
 
--- "Two ranges that share chain words hit alike on every input."
-pub ranges-that-share-words-hit-alike : (d e : List ℕ) → AcceptedDescription 1 d → AcceptedDescription 1 e
+-- ranges as they are
+pub ranges-alike : (d e : List ℕ) → AcceptedDescription 1 d → AcceptedDescription 1 e
     → chainWordsOf 1 d ≡ chainWordsOf 1 e → HitAlike (hitOf (rangeOf d)) (hitOf (rangeOf e))
-ranges-that-share-words-hit-alike d e a b q =
+ranges-alike d e a b q =
     range.ranges-of-equal-words (rangeOf d) (rangeOf e) (range-accepted d (description-bytes 1 d a) (description-sound 1 d a .1))
     (range-accepted e (description-bytes 1 e b) (description-sound 1 e b .1)) (sym (range-words d) ∙ q ∙ range-words e)
 
@@ -72,10 +72,9 @@ pub dropped-words-are : (d ws : List ℕ) → AcceptedDescription 1 d → Droppe
 dropped-words-are d ws a =
     range.range-dropped-exactly (rangeOf d) (range-accepted d (description-bytes 1 d a) (description-sound 1 d a .1)) ws
 
--- "Once each range has its lines that cannot matter dropped, the two have equal words exactly when they hit alike on every input."
--- `DroppedWords` says of words that they are a range's with FFFF, in both chains, at each line that cannot matter.
-pub dropped-words-iff-alike : (d e ws vs : List ℕ) → AcceptedDescription 1 d → AcceptedDescription 1 e
+-- ranges with those lines dropped
+pub dropped-alike : (d e ws vs : List ℕ) → AcceptedDescription 1 d → AcceptedDescription 1 e
     → DroppedWords (rangeOf d) ws → DroppedWords (rangeOf e) vs → (ws ≡ vs) ↔ HitAlike (hitOf (rangeOf d)) (hitOf (rangeOf e))
-dropped-words-iff-alike d e ws vs a b =
+dropped-alike d e ws vs a b =
     range.ranges-dropped-alike (rangeOf d) (rangeOf e) (range-accepted d (description-bytes 1 d a) (description-sound 1 d a .1))
     (range-accepted e (description-bytes 1 e b) (description-sound 1 e b .1)) ws vs
