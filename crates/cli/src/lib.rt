@@ -1,7 +1,6 @@
 // The command line: each verb reads its files, calls one proved library and writes what came of it; run by the program and by its table of cases.
-// Promises: every call is safe and ends; a section's number is what its decimal digits say. What is read and written no contract can say.
-// Rests on: sheet, compiler, reader and notice (the work), buffer (bytes, refusals), io, libc and os (files, arguments).
-mod digits;
+// Promises: every call is safe and ends. What is read and written no contract can say.
+// Rests on: sheet, compiler, reader and notice (the work), decimal (a section's number), buffer (bytes, refusals), io, libc and os (files, arguments).
 mod file;
 mod say;
 mod verbs;

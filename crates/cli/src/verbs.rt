@@ -1,5 +1,4 @@
 // The verbs. Each reads its files, calls the library and says what came of it.
-use crate::digits;
 use crate::file;
 use crate::say;
 use buffer::Outcome;
@@ -65,11 +64,11 @@ fn check(arg: usize, out: i32, err: i32) {
 fn section(arg: usize, number_arg: usize, out: i32, err: i32) {
     let mut word = io::buffer();
     let length = os::arg(number_arg, &mut word);
-    if !digits::is_decimal(&word[..length]) {
+    if !decimal::is_decimal(&word[..length]) {
         say::no_number(number_arg, err);
         return;
     }
-    let asked = digits::section_asked(&word[..length]);
+    let asked = decimal::section_asked(&word[..length]);
     let mut sheet = [0u8; SHEET_BUFFER];
     let input = file::load_named(arg, &mut sheet, err);
     if !input.is_read {

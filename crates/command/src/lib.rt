@@ -5,7 +5,6 @@ mod put;
 mod read;
 
 pub use put::put_chain;
-pub use put::put_command;
 pub use read::check_command;
 pub use read::check_loads;
 pub use read::number_at;

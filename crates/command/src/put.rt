@@ -8,7 +8,7 @@ use buffer::OUTPUT_TOO_SHORT;
 use buffer::Outcome;
 
 // One command: the opcode, then the number, least byte first.
-pub fn put_command(out: &mut [u8], op: u8, n: u32) -> Outcome
+fn put_command(out: &mut [u8], op: u8, n: u32) -> Outcome
     ensures { λ r. ⌜ Delivered (bytes (command op n)) (now (out .entry)) r (now (out .exit)) ⌝ }
 {
     if out.len() < COMMAND_SIZE {

@@ -7,7 +7,7 @@ use lib.ListN.{length, getD, take, drop, length-append}
 use lib.Seq.{split-at, take-at, drop-append-seam}
 use Rattle.command.specs.Command.{chain, Words}
 use Rattle.command.proofs.RoundTrip.{chain-words, chain-past}
-use Rattle.sheet.specs.Sections.{sections, slotOf, descriptionOf}
+use Rattle.records.specs.Sections.{sections, slotOf, descriptionOf}
 use Rattle.compiler.specs.Items.{addressOf, lengthsOf, chainsOf, chainsFrom, item, itemSize}
 use Rattle.compiler.specs.Stream.{items, sendingOrder, sent, streamOf}
 use Rattle.compiler.specs.Chains.{chainWordsOf, wordsRead}

@@ -15,7 +15,7 @@ use Rattle.buffer.specs.declared.Outcome.{Outcome}
 use Rattle.buffer.specs.Room.{bytes, Delivered}
 use Rattle.command.specs.Command.{chain, Words}
 use Rattle.command.proofs.Written.{length-chain}
-use Rattle.sheet.specs.Sections.{row, rows, noFault, sections, rowOf, mostOf, faultIf, sumFaultOf, descriptionFault, fieldOf, slotOf, descriptionOf, sumOf}
+use Rattle.records.specs.Sections.{row, rows, noFault, sections, rowOf, mostOf, faultIf, sumFaultOf, descriptionFault, fieldOf, slotOf, descriptionOf, sumOf}
 use Rattle.sheet.specs.Parsed.{Faultless}
 use Rattle.sheet.proofs.Written.{sum-whole}
 use Rattle.term.specs.Words.{termWords}

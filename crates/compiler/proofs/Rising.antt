@@ -10,7 +10,7 @@ use lib.Seq.{drop-cons}
 use Rattle.lines.proofs.Computed.{everyBelow, every-below}
 use Rattle.lines.proofs.Truth.{and-left, and-right}
 use Rattle.command.specs.Command.{chain}
-use Rattle.sheet.specs.Sections.{sections, rowOf, mostOf, slotOf, descriptionOf}
+use Rattle.records.specs.Sections.{sections, rowOf, mostOf, slotOf, descriptionOf}
 use Rattle.sheet.specs.Parsed.{Ordered, WellFormed, render}
 use Rattle.sheet.proofs.Parsed.{render-accepted, parse-render}
 use Rattle.sheet.proofs.Records.{section-ordered}

@@ -9,11 +9,12 @@ use native.Mathlib.Omega.{arith}
 use lib.ListN.{length, getD, drop, length-append, drop-of-length-le}
 use lib.Seq.{drop-cons}
 use Rattle.buffer.specs.declared.Verdict.the-variants.{Accepted}
-use Rattle.sheet.specs.Sections.{sections, mostOf}
+use Rattle.records.specs.Sections.{sections, mostOf}
 use Rattle.sheet.specs.Reading.{verdict}
-use Rattle.sheet.specs.Parts.{sectionUnchecked, recordCount, recordAt}
+use Rattle.records.specs.Records.{recordCount, recordAt}
+use Rattle.sheet.specs.Parts.{sectionUnchecked}
 use Rattle.sheet.specs.Parsed.{parse}
-use Rattle.sheet.proofs.Bounds.{most-byte}
+use Rattle.records.proofs.Bounds.{most-byte}
 use Rattle.sheet.proofs.Parsed.{ordered-count}
 use Rattle.sheet.proofs.Records.{section-ordered}
 use Rattle.sheet.proofs.Theorems.{unchecked-is-section, section-count, section-record}

@@ -15,7 +15,7 @@ use Rattle.buffer.specs.declared.Outcome.the-variants.{Done, Refused}
 use Rattle.buffer.specs.declared.Verdict.the-variants as Verdict
 use Rattle.buffer.proofs.Numbers.{u32-small}
 use Rattle.buffer.proofs.Writing.{answered, filled}
-use Rattle.sheet.specs.Sections.{fieldOf, rangeFaultOf, rowOf, sections, mostOf, descriptionFault, descriptionOf}
+use Rattle.records.specs.Sections.{fieldOf, rangeFaultOf, rowOf, sections, mostOf, descriptionFault, descriptionOf}
 use Rattle.sheet.specs.Reading.{verdict}
 use Rattle.sheet.specs.Parsed.{WellFormed, parse, AcceptedDescription}
 use Rattle.sheet.proofs.Descriptions.{description-sound, description-bytes}

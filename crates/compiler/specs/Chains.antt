@@ -4,7 +4,7 @@ use mathlib.Core.List.{List, [], _∷_, _++_, flatten}
 use lib.ListN.{getD, drop}
 use Rattle.command.specs.Command.{chain}
 use Rattle.command.specs.Reading.{wordsIn}
-use Rattle.sheet.specs.Sections.{slotOf, descriptionOf}
+use Rattle.records.specs.Sections.{slotOf, descriptionOf}
 use Rattle.compiler.specs.Items.{addressOf, chainsOf}
 
 -- 01, 'Chain words': a chain is loaded at an address, one word after the other

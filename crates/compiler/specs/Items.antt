@@ -4,7 +4,7 @@ use Prim.Native.Nat.{ℕ, _+_, _*_}
 use mathlib.Core.List.{List, [], _∷_, _++_}
 use lib.ListN.{getD}
 use Rattle.command.specs.Command.{chain}
-use Rattle.sheet.specs.Sections.{fieldOf, slotOf, descriptionOf}
+use Rattle.records.specs.Sections.{fieldOf, slotOf, descriptionOf}
 use Rattle.term.specs.Words.{termWords}
 use Rattle.range.specs.Words.{rangeWords}
 use Rattle.edge.specs.Chain.{edgeWords}

@@ -8,7 +8,7 @@ ghost use Rattle.sheet.specs.Parsed.{Faultless};
 ghost use Rattle.compiler.specs.Items.{chainsFrom, item, itemSize};
 use buffer::OUTPUT_TOO_SHORT;
 use buffer::Outcome;
-use sheet::SECTIONS;
+use records::SECTIONS;
 
 // The addresses of the first slots; a sum's address is known to its crate.
 const TERM_ADDRESS: u32 = 0x20;
@@ -37,9 +37,12 @@ pub fn item_size(section: usize) -> usize
 fn put_term(out: &mut [u8], rec: &[u8]) -> Outcome
     ensures { λ r. ⌜ Delivered (bytes (item 0 (now (rec .entry)))) (now (out .entry)) r (now (out .exit)) ⌝ }
 {
-    let description = sheet::description(rec);
-    let words = term::term_words(sheet::field(description, 0), sheet::field(description, 1));
-    command::put_chain(out, TERM_ADDRESS + sheet::slot(rec) as u32, &words)
+    let description = records::description(rec);
+    let words = term::term_words(
+        records::field(description, 0),
+        records::field(description, 1),
+    );
+    command::put_chain(out, TERM_ADDRESS + records::slot(rec) as u32, &words)
 }
 
 // Two chains of sixteen words at neighbouring addresses, the second in the room behind the first.
@@ -59,25 +62,25 @@ fn put_pair(out: &mut [u8], address: u32, chains: [[u32; 16]; 2]) -> Outcome
 fn put_range(out: &mut [u8], rec: &[u8]) -> Outcome
     ensures { λ r. ⌜ Delivered (bytes (item 1 (now (rec .entry)))) (now (out .entry)) r (now (out .exit)) ⌝ }
 {
-    let description = sheet::description(rec);
+    let description = records::description(rec);
     let chains = range::range_words(
-        sheet::field(description, 0),
-        sheet::field(description, 1),
-        sheet::field(description, 2),
+        records::field(description, 0),
+        records::field(description, 1),
+        records::field(description, 2),
     );
-    put_pair(out, RANGE_ADDRESS + 2 * sheet::slot(rec) as u32, chains)
+    put_pair(out, RANGE_ADDRESS + 2 * records::slot(rec) as u32, chains)
 }
 
 fn put_edge(out: &mut [u8], rec: &[u8]) -> Outcome
     ensures { λ r. ⌜ Delivered (bytes (item 2 (now (rec .entry)))) (now (out .entry)) r (now (out .exit)) ⌝ }
 {
-    let description = sheet::description(rec);
+    let description = records::description(rec);
     let words = edge::edge_words(
-        sheet::field(description, 0),
-        sheet::field(description, 1),
-        sheet::field(description, 2),
+        records::field(description, 0),
+        records::field(description, 1),
+        records::field(description, 2),
     );
-    command::put_chain(out, EDGE_ADDRESS + sheet::slot(rec) as u32, &words)
+    command::put_chain(out, EDGE_ADDRESS + records::slot(rec) as u32, &words)
 }
 
 // A sum without fault: each of its operation bytes is a code, and has its word.
@@ -85,9 +88,9 @@ fn put_sum(out: &mut [u8], rec: &[u8]) -> Outcome
     requires { ⌜ Faultless 3 0 (now rec) ⌝ }
     ensures { λ r. ⌜ Delivered (bytes (item 3 (now (rec .entry)))) (now (out .entry)) r (now (out .exit)) ⌝ }
 {
-    let sent = sum::sum_words(sheet::sum_record(rec));
+    let sent = sum::sum_words(records::sum_record(rec));
     let words = sent.words;
-    command::put_chain(out, sum::sum_address(sheet::slot(rec)), &words)
+    command::put_chain(out, sum::sum_address(records::slot(rec)), &words)
 }
 
 // The item of a record without fault.

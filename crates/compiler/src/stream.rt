@@ -5,7 +5,7 @@ ghost use Prim.Native.Nat.{_≤_, _<_};
 ghost use lib.ListN.{length, getD};
 ghost use Rattle.buffer.specs.Room.{bytes, Delivered};
 ghost use Rattle.buffer.specs.declared.Verdict.the-variants.{Accepted};
-ghost use Rattle.sheet.specs.Sections.{sections};
+ghost use Rattle.records.specs.Sections.{sections};
 ghost use Rattle.sheet.specs.Reading.{verdict};
 ghost use Rattle.sheet.specs.Parsed.{parse};
 ghost use Rattle.compiler.specs.Stream.{items, streamOf};
@@ -13,7 +13,7 @@ use crate::items::item_size;
 use crate::items::put_item;
 use buffer::OUTPUT_TOO_SHORT;
 use buffer::Outcome;
-use sheet::SECTIONS;
+use records::SECTIONS;
 
 // The sections by number, in the order in which they are sent.
 const ORDER: [usize; SECTIONS] = [0, 1, 2, 3];
@@ -23,7 +23,7 @@ fn section_size(sheet: &[u8], section: usize) -> usize
     requires { ⌜ (verdict (now sheet) ≡ Accepted) × (section < sections) ⌝ }
     ensures { λ r. ⌜ (r ≡ length (items section (getD (parse (now (sheet .entry))) section []))) × (r ≤ 262144) ⌝ }
 {
-    sheet::record_count(sheet::section_unchecked(sheet, section), section) * item_size(section)
+    records::record_count(sheet::section_unchecked(sheet, section), section) * item_size(section)
 }
 
 // The items of a section, each in the room behind the one before.
@@ -36,11 +36,15 @@ fn put_section(out: &mut [u8], sheet: &[u8], section: usize) -> Outcome
         return Outcome::Refused(OUTPUT_TOO_SHORT, size);
     }
     let part = sheet::section_unchecked(sheet, section);
-    let count = sheet::record_count(part, section);
+    let count = records::record_count(part, section);
     let mut at: usize = 0;
     let mut i: usize = 0;
     while i < count {
-        put_item(&mut out[at..], section, sheet::record_at(part, section, i));
+        put_item(
+            &mut out[at..],
+            section,
+            records::record_at(part, section, i),
+        );
         at += item_size(section);
         i += 1;
     }

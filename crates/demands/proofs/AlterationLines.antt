@@ -1,18 +1,16 @@
 -- Which lines the notice of two accepted sheets has for a slot, and that its bytes determine its lines. Assumes nothing.
 use Prim.Native.Nat.{ℕ, zero, suc, _^_, _<_}
 use mathlib.Core.Path.{_≡_, refl, sym, ap, _∙_, subst}
-use mathlib.Core.Bool.{Bool, true, false}
 use mathlib.Core.List.{List, [], List·Memᴰ}
 use mathlib.Core.Logic.{_↔_, ⊎-elim}
 use native.Mathlib.Omega.{arith}
-use Rattle.lines.specs.Same.{same}
-use Rattle.lines.proofs.Compare.{same-true, same-false}
+use Rattle.lines.proofs.Compare.{same-false}
 use Rattle.lut.specs.Telling.{LeastApart, SaysLeast}
 use Rattle.lut.specs.declared.Telling.{Telling}
 use Rattle.lut.specs.declared.Telling.the-variants.{Alike, One, Two}
 use Rattle.buffer.specs.Bytes.{Bytes}
 use Rattle.buffer.specs.declared.Verdict.the-variants.{Accepted}
-use Rattle.sheet.specs.Sections.{sections, mostOf, fieldOf, labelOf, descriptionOf}
+use Rattle.records.specs.Sections.{sections, fieldOf, labelOf, descriptionOf}
 use Rattle.sheet.specs.Reading.{verdict}
 use Rattle.term.specs.Rule.{termHit}
 use Rattle.notice.specs.declared.Finding.{Finding}

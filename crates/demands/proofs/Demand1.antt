@@ -12,7 +12,6 @@ use Rattle.buffer.specs.declared.Outcome.the-variants as Outcome
 use Rattle.buffer.specs.declared.Verdict.the-variants as Verdict
 use Rattle.buffer.proofs.Writing.{kept-refused, kept-beyond}
 use Rattle.lut.specs.Answer.{ran, answerNumber, answerPlace}
-use Rattle.lut.specs.declared.Answer.the-variants.{WrongCount}
 use Rattle.lut.proofs.Runs.{run-other}
 use Rattle.sheet.specs.Reading.{verdict}
 use Rattle.sheet.specs.Parts.{sectionOf}

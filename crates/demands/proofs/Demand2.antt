@@ -13,7 +13,7 @@ use Rattle.buffer.specs.declared.Outcome.the-variants.{Done, Refused}
 use Rattle.buffer.specs.declared.Verdict.{Verdict}
 use Rattle.buffer.specs.declared.Verdict.the-variants.{Accepted}
 use Rattle.buffer.specs.declared.Verdict.the-variants as Verdict
-use Rattle.sheet.specs.Sections.{sections, fieldOf, descriptionOf}
+use Rattle.records.specs.Sections.{sections, fieldOf, descriptionOf}
 use Rattle.sheet.specs.Reading.{verdict}
 use Rattle.sheet.specs.Parsed.{parse, render}
 use Rattle.term.specs.Rule.{termHit}

@@ -12,7 +12,7 @@ use Rattle.lut.specs.declared.Telling.{Telling}
 use Rattle.lut.specs.declared.Telling.the-variants.{Alike}
 use Rattle.buffer.specs.Bytes.{Bytes}
 use Rattle.buffer.specs.declared.Verdict.the-variants.{Accepted}
-use Rattle.sheet.specs.Sections.{sections, fieldOf}
+use Rattle.records.specs.Sections.{sections, fieldOf}
 use Rattle.sheet.specs.Reading.{verdict}
 use Rattle.sheet.specs.Parsed.{AcceptedDescription}
 use Rattle.term.specs.Rule.{termHit}

@@ -1,13 +1,11 @@
 -- Equal chain words and equal behaviour, of two accepted descriptions of one kind. A description's chain words are `chainWordsOf`,
 -- the numbers of the load commands that the compiler writes for it. Assumes nothing.
-use Prim.Native.Nat.{ℕ, _^_, _<_}
-use mathlib.Core.Path.{_≡_, refl, sym, ap, _∙_}
-use mathlib.Core.List.{List, [], _++_, append-nil, flatten}
+use Prim.Native.Nat.{ℕ}
+use mathlib.Core.Path.{_≡_, sym, ap, _∙_}
+use mathlib.Core.List.{List, _++_, append-nil, flatten}
 use mathlib.Core.Logic.{_↔_}
 use Rattle.lut.specs.Telling.{HitAlike, HitAlike₂}
-use Rattle.buffer.specs.Bytes.{Bytes}
-use Rattle.buffer.proofs.Numbers.{u32-small}
-use Rattle.sheet.specs.Sections.{fieldOf}
+use Rattle.records.specs.Sections.{fieldOf}
 use Rattle.sheet.specs.Parsed.{AcceptedDescription}
 use Rattle.sheet.proofs.Descriptions.{description-sound, description-bytes}
 use Rattle.term.specs.Rule.{termHit}

@@ -2,15 +2,15 @@
 use Prim.Native.Nat.{ℕ}
 use mathlib.Core.Bool.{Bool, true, _&&_}
 use mathlib.Core.List.{List, [], _∷_, _++_}
-use lib.Count.{ones, trailingZeros}
+use lib.Count.{trailingZeros}
 use lib.Dec.{T}
-use lib.ListN.{length, replicate}
+use lib.ListN.{replicate}
 use Rattle.buffer.specs.Bytes.{u32At}
 use Rattle.lines.specs.Line.{flipLine}
 use Rattle.lines.specs.Gather.{gathered, scattered, dropLowest}
 use Rattle.lines.specs.Same.{same}
-use Rattle.sheet.specs.Sections.{fieldBytes, rowOf, mostOf, descriptionSize}
-use Rattle.sheet.specs.Parts.{recordsFrom, find}
+use Rattle.records.specs.Sections.{fieldBytes, rowOf, mostOf, descriptionSize}
+use Rattle.records.specs.Records.{recordsFrom, find}
 use Rattle.sheet.specs.Parsed.{joined, render, sectionsFrom, parse}
 use Rattle.term.specs.Telling.{leastTelling}
 use Rattle.range.specs.Rule.{rangeHit}

@@ -1,14 +1,14 @@
 -- The lines of a notice, one after the other: no line comes twice, each shows what can be written, and how long they are. Assumes nothing.
 use Prim.Native.Nat.{ℕ, zero, suc, _+_, _*_, _≤_, _<_}
-use mathlib.Core.Path.{_≡_, refl, sym, ap, _∙_, subst}
+use mathlib.Core.Path.{_≡_, refl, ap}
 use mathlib.Core.Bool.{Bool, true, false, cond}
 use mathlib.Core.List.{List, [], _∷_, _++_}
 use native.Mathlib.Nat.{suc-mul}
 use native.Mathlib.Omega.{arith}
 use lib.ListN.{length, getD, length-append}
 use Rattle.lines.specs.Same.{same}
-use Rattle.sheet.specs.Sections.{sections, mostOf, rowOf, labelOf, descriptionOf}
-use Rattle.sheet.specs.Parts.{find}
+use Rattle.records.specs.Sections.{sections, mostOf, rowOf, labelOf, descriptionOf}
+use Rattle.records.specs.Records.{find}
 use Rattle.sheet.specs.Parsed.{parse}
 use Rattle.notice.specs.declared.Finding.{Finding}
 use Rattle.notice.specs.declared.Finding.the-variants.{New, Gone, Name, Oper, Word, AltrOne, AltrTwo}

@@ -9,9 +9,9 @@ use Rattle.buffer.specs.declared.Verdict.the-variants.{Accepted}
 use Rattle.lines.specs.Line.{flipLine, overLines}
 use Rattle.lines.specs.Gather.{gathered, scattered, dropLowest}
 use Rattle.lines.specs.Same.{same}
-use Rattle.sheet.specs.Sections.{labelSize, fieldBytes, noFault, rangeFaultOf, edgeFaultOf, sumFaultOf, rowOf, mostOf, descriptionSize, descriptionFault}
+use Rattle.records.specs.Sections.{labelSize, fieldBytes, noFault, rangeFaultOf, edgeFaultOf, sumFaultOf, rowOf, mostOf, descriptionSize, descriptionFault}
 use Rattle.sheet.specs.Reading.{recordFault, recordsVerdict, countVerdict, sectionVerdict, sectionsVerdict, verdict}
-use Rattle.sheet.specs.Parts.{recordsFrom, find}
+use Rattle.records.specs.Records.{recordsFrom, find}
 use Rattle.sheet.specs.Parsed.{joined, render, sectionsFrom, parse}
 use Rattle.sheet.proofs.Examples.{full}
 use Rattle.sheet.proofs.Theorems as sheet

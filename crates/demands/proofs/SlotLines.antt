@@ -2,32 +2,29 @@
 use Prim.Native.Nat.{ℕ, zero, suc, _+_, _≤_, _<_}
 use mathlib.Core.Path.{_≡_, refl, sym, ap, _∙_, subst}
 use mathlib.Core.Bool.{Bool, true, false}
-use mathlib.Core.List.{List, [], _∷_, cons≢nil, List·Memᴰ}
-use mathlib.Core.Logic.{_↔_, ⊎-elim}
+use mathlib.Core.List.{List, [], _∷_, cons≢nil}
 use native.Mathlib.Omega.{arith}
 use lib.ListN.{getD}
 use Rattle.lines.specs.Same.{same}
-use Rattle.lines.proofs.Compare.{same-true, same-false, same-refl}
+use Rattle.lines.proofs.Compare.{same-refl}
 use Rattle.lut.specs.declared.Telling.{Telling}
 use Rattle.lut.specs.declared.Telling.the-variants.{Alike, One, Two}
 use Rattle.buffer.specs.Bytes.{Bytes}
 use Rattle.buffer.specs.declared.Verdict.the-variants.{Accepted}
 use Rattle.buffer.proofs.Numbers.{bytes-drop}
-use Rattle.sheet.specs.Sections.{sections, labelSize, mostOf, labelOf, descriptionOf, descriptionFault}
+use Rattle.records.specs.Sections.{sections, labelSize, mostOf, labelOf, descriptionOf}
 use Rattle.sheet.specs.Reading.{verdict}
-use Rattle.sheet.specs.Parts.{find}
 use Rattle.sheet.specs.Parsed.{Faultless, parse}
 use Rattle.sheet.proofs.Descriptions.{bytes-parsed, bytes-found}
-use Rattle.sheet.proofs.Found.{Stands, find-found}
+use Rattle.sheet.proofs.Found.{find-found}
 use Rattle.sheet.proofs.Records.{section-ordered, record-faultless}
 use Rattle.notice.specs.declared.Finding.{Finding}
 use Rattle.notice.specs.declared.Finding.the-variants.{New, Gone, Name, Oper, Word, AltrOne, AltrTwo}
-use Rattle.notice.specs.Findings.{told, sumFinding, findingOf, line}
-use Rattle.notice.specs.Notice.{noticeLines}
-use Rattle.notice.specs.Shared.{recordOf, Has, Shared}
-use Rattle.notice.proofs.Members.{Found, Renamed, Changed, tag, line-found}
-use Rattle.demands.specs.Apart.{InputTells, SomeInputTells}
-use Rattle.demands.proofs.Tellings.{tellingAt, finding-told, Decides, decides, not-itself}
+use Rattle.notice.specs.Findings.{told, sumFinding, findingOf}
+use Rattle.notice.specs.Shared.{recordOf, Has}
+use Rattle.notice.proofs.Members.{Found, Renamed, Changed, tag}
+use Rattle.demands.specs.Apart.{InputTells}
+use Rattle.demands.proofs.Tellings.{tellingAt, finding-told}
 
 -- ---- the records of an accepted sheet
 

@@ -1,8 +1,8 @@
 -- What the detectors' tellings say of accepted descriptions, one law over the three kinds. Assumes nothing.
 use Prim.Native.Nat.{ℕ, zero, suc, _^_, _<_}
-use mathlib.Core.Path.{_≡_, refl, sym, ap, _∙_}
+use mathlib.Core.Path.{_≡_, refl}
 use mathlib.Core.Bool.{Bool, true, false, not}
-use mathlib.Core.List.{List, []}
+use mathlib.Core.List.{List}
 use mathlib.Core.Logic.{_⊎_, inl, inr}
 use native.Mathlib.Omega.{arith}
 use Rattle.lut.specs.Telling.{SaysLeast, SaysOne, SaysTwo}
@@ -10,11 +10,11 @@ use Rattle.lut.specs.declared.Telling.{Telling}
 use Rattle.lut.specs.declared.Telling.the-variants.{Alike, One, Two}
 use Rattle.buffer.specs.Bytes.{Bytes}
 use Rattle.buffer.proofs.Numbers.{u32-small}
-use Rattle.sheet.specs.Sections.{fieldOf, faultIf, rowOf, descriptionFault, rangeFaultOf, edgeFaultOf}
+use Rattle.records.specs.Sections.{fieldOf, faultIf, rowOf, descriptionFault, rangeFaultOf, edgeFaultOf}
 use Rattle.term.specs.Rule.{termHit}
 use Rattle.term.specs.Telling.{leastTelling}
 use Rattle.term.proofs.Theorems as term
-use Rattle.range.specs.Rule.{hitOf, rangeFault, RangeAccepted}
+use Rattle.range.specs.Rule.{hitOf, RangeAccepted}
 use Rattle.range.specs.Tell.{tellingOf}
 use Rattle.range.proofs.Faults.{fault-0}
 use Rattle.range.proofs.Theorems as range

@@ -5,7 +5,7 @@ use Prim.Native.Nat.{ℕ, zero, suc}
 use Rattle.lut.specs.Telling.{TellsApart, TellsApart₂}
 use Rattle.lut.specs.declared.Telling.{Telling}
 use Rattle.lut.specs.declared.Telling.the-variants.{Alike, One, Two}
-use Rattle.sheet.specs.Sections.{fieldOf}
+use Rattle.records.specs.Sections.{fieldOf}
 use Rattle.term.specs.Rule.{termHit}
 use Rattle.range.specs.Rule.{hitOf}
 use Rattle.edge.specs.Telling.{hits}

@@ -1,7 +1,6 @@
 -- A rule with finitely many cases, proved at each of them by one test that antt computes: over the numbers below some bounds,
 -- as binary digits (bounds of 2), nibbles (bounds of 16) or codes and addresses. Assumes nothing.
 use Prim.Native.Nat.{ℕ, zero, suc, _<_}
-use mathlib.Core.Path.{_≡_}
 use mathlib.Core.Bool.{Bool, true, _&&_}
 use mathlib.Core.List.{List, [], _∷_}
 use mathlib.Core.Logic.{⊎-elim}

@@ -6,7 +6,7 @@ use native.Mathlib.Numerals.{add-one, one-add}
 use native.Mathlib.Omega.{arith}
 use lib.Bits.{bitAnd, bitOr, bitXor, and-shr, or-shr, xor-shr, and-mod, or-mod, xor-mod}
 use lib.Dec.{lit<}
-use lib.Pow.{shl-exact, shr-shr}
+use lib.Pow.{shl-exact, shr-shr, field, mod-mod-pow}
 use Rattle.lines.specs.Line.{line, fromLines}
 
 pub bit-lt : (x : ℕ) → x % 2 < 2
@@ -26,6 +26,14 @@ line-zero x = ap (λ (q : ℕ). q % 2) (div-one x)
 -- line j + m of a sample is line j of the sample shifted down by m
 pub line-up : (x j m : ℕ) → line x (j + m) ≡ line (x / 2 ^ m) j
 line-up x j m = ap (λ (i : ℕ). x / 2 ^ i % 2) (add-comm j m) ∙ ap (λ (y : ℕ). y % 2) (sym (shr-shr x m j))
+
+-- a number cut to its lowest n lines keeps each of them
+pub line-mod : (x n i : ℕ) → i < n → line (x % 2 ^ n) i ≡ line x i
+line-mod x n i h =
+    let above : n ≡ n - suc i + 1 + i = omega arith in
+    ap (λ (k : ℕ). line (x % 2 ^ k) i) above
+    ∙ ap (λ (q : ℕ). q % 2) (field x (n - suc i + 1) i)
+    ∙ mod-mod-pow (x / 2 ^ i) (n - suc i) 1
 
 -- a line of the AND, of the OR and of the XOR of two numbers: a formula of whole numbers holds line by line
 pub line-and : (a b i : ℕ) → line (bitAnd a b) i ≡ bitAnd (line a i) (line b i)

@@ -1,5 +1,5 @@
 -- The laws of dropping the lowest masked line: the gathered number loses its lowest bit. Assumes nothing.
-use mathlib.Core.Path.{_≡_, refl, sym, ap, ap₂, _∙_}
+use mathlib.Core.Path.{_≡_, refl, sym, ap, _∙_}
 use Prim.Native.Nat.{ℕ, zero, suc, _+_, _-_, _*_, _/_, _%_, _^_, _≤_, _<_, min}
 use native.Mathlib.Nat.{zero-div, add-zero, two-pow-succ}
 use lib.Bits.{bitAnd, and-step, and-self}

@@ -1,14 +1,16 @@
 -- A lookup table made bit by bit. Assumes nothing.
-use mathlib.Core.Path.{_≡_, ap, _∙_}
+use mathlib.Core.Path.{_≡_, _∙_, refl, sym, ap}
 use mathlib.Core.Bool.{Bool, true, false}
-use Prim.Native.Nat.{ℕ, zero, suc, _+_, _*_, _%_, _^_, _<_}
-use native.Mathlib.Nat.{two-pow-succ, add-zero, zero-mul, one-mul}
+use Prim.Native.Nat.{ℕ, zero, suc, _+_, _*_, _/_, _%_, _^_, _<_}
+use native.Mathlib.Nat.{two-pow-succ, add-comm, add-zero, zero-mul, one-mul}
+use native.Mathlib.Decide.{ℕ-discrete}
 use native.Mathlib.Numerals.{add-one}
 use native.Mathlib.Omega.{arith}
 use lib.Dec.{lit<}
-use lib.Pow.{pow-mono}
-use Rattle.lines.proofs.Digit.{shifted-one}
-use Rattle.lut.specs.Table.{oneIf, tableOf}
+use lib.Pow.{pow-mono, high, low}
+use Rattle.lines.specs.Line.{line}
+use Rattle.lines.proofs.Digit.{line-mod, shifted-one}
+use Rattle.lut.specs.Table.{answerAt, oneIf, tableOf}
 
 -- a table of n addresses has n bits
 bit-fits : (b : Bool) (x p : ℕ) → x < p → x + oneIf b * p < p + p
@@ -19,6 +21,30 @@ pub table-lt : (f : ℕ → Bool) (n : ℕ) → tableOf f n < 2 ^ n
 unfolding tableOf
 table-lt f zero = lit< tt
 table-lt f (suc n) = rw two-pow-succ (bit-fits (f n) (tableOf f n) (2 ^ n) (table-lt f n))
+
+-- the highest address answers by the bit added last, those below as before
+top : (b : Bool) (n t : ℕ) → t < 2 ^ n → answerAt (t + oneIf b * 2 ^ n) n ≡ oneIf b
+top b n t h =
+    ap (λ (q : ℕ). q / 2 ^ n % 2) (add-comm t (oneIf b * 2 ^ n)) ∙ ap (λ (q : ℕ). q % 2) (high (oneIf b) n h) ∙ bit b
+  where
+    bit : (b : Bool) → oneIf b % 2 ≡ oneIf b
+    bit true = refl
+    bit false = refl
+
+below : (b : Bool) (n t i : ℕ) → t < 2 ^ n → i < n → answerAt (t + oneIf b * 2 ^ n) i ≡ answerAt t i
+below b n t i h l =
+    sym (line-mod (t + oneIf b * 2 ^ n) n i l)
+    ∙ ap (λ (q : ℕ). line q i) (ap (λ (q : ℕ). q % 2 ^ n) (add-comm t (oneIf b * 2 ^ n)) ∙ low (oneIf b) n h)
+
+-- the table that was made of a test answers by it
+pub table-answer : (f : ℕ → Bool) (n i : ℕ) → i < n → answerAt (tableOf f n) i ≡ oneIf (f i)
+unfolding tableOf
+table-answer f zero i h = absurd (omega arith)
+table-answer f (suc n) i h =
+    elim (ℕ-discrete i n) [
+      | yes q ↦ rw q (top (f n) n (tableOf f n) (table-lt f n))
+      | no q ↦ below (f n) n (tableOf f n) i (table-lt f n) (omega arith) ∙ table-answer f n i (omega arith)
+    ]
 
 module _ (f : ℕ → Bool) (n x : ℕ) (h : n < 31) (e : x ≡ tableOf f n) where
   -- address n answers 1: its bit is added, and the sum fits

@@ -4,7 +4,7 @@
 ghost use mathlib.Core.Path.{_≡_};
 ghost use Rattle.lines.specs.Same.{same};
 ghost use Rattle.lut.specs.Table.{answerAt};
-ghost use Rattle.lut.specs.Answer.{hitOrMiss, answerNumber, answerPlace, answerHit};
+ghost use Rattle.lut.specs.Answer.{hitOrMiss};
 
 // What the model says.
 pub enum Answer {
@@ -52,37 +52,4 @@ pub fn same_words(a: &[u32], b: &[u32]) -> bool
         i += 1;
     }
     true
-}
-
-// The answer's refusal number, 0 for none.
-pub fn answer_number(answer: Answer) -> u8
-    ensures { λ r. ⌜ r ≡ answerNumber answer ⌝ }
-{
-    match answer {
-        Answer::Hit => 0,
-        Answer::Miss => 0,
-        Answer::WrongCount(_) => 17,
-    }
-}
-
-// The refusal's place, the count needed; 0 where there is none.
-pub fn answer_place(answer: Answer) -> usize
-    ensures { λ r. ⌜ r ≡ answerPlace answer ⌝ }
-{
-    match answer {
-        Answer::Hit => 0,
-        Answer::Miss => 0,
-        Answer::WrongCount(needed) => needed,
-    }
-}
-
-// 1 for a hit, 0 for a miss or a refusal.
-pub fn answer_hit(answer: Answer) -> u8
-    ensures { λ r. ⌜ r ≡ answerHit answer ⌝ }
-{
-    match answer {
-        Answer::Hit => 1,
-        Answer::Miss => 0,
-        Answer::WrongCount(_) => 0,
-    }
 }

@@ -1,15 +1,16 @@
 -- The notice, section by section: what is still to be written makes what was to be written. Assumes nothing.
 use Prim.Native.Nat.{ℕ, zero, suc, _+_, _-_, _*_, _≤_, _<_}
 use mathlib.Core.Path.{_≡_, refl, sym, ap, _∙_}
-use mathlib.Core.List.{List, [], _∷_, _++_}
+use mathlib.Core.List.{List, [], _++_}
 use native.Mathlib.Omega.{arith}
 use lib.ListN.{length, getD, length-append}
 use Rattle.buffer.specs.Room.{write, Wrote}
 use Rattle.buffer.specs.declared.Verdict.the-variants.{Accepted}
 use Rattle.buffer.proofs.Writing.{Pending, pending-start, pending-write, pending-end}
-use Rattle.sheet.specs.Sections.{sections, mostOf, rowOf}
+use Rattle.records.specs.Sections.{sections, mostOf, rowOf}
 use Rattle.sheet.specs.Reading.{verdict}
-use Rattle.sheet.specs.Parts.{sectionUnchecked, recordsIn}
+use Rattle.records.specs.Records.{recordsIn}
+use Rattle.sheet.specs.Parts.{sectionUnchecked}
 use Rattle.sheet.specs.Parsed.{Ordered, parse}
 use Rattle.sheet.proofs.Reading.{unchecked}
 use Rattle.sheet.proofs.Records.{section-ordered, section-joined, records-of}

@@ -1,6 +1,6 @@
 -- The call's answers, case by case. Assumes nothing.
 use Prim.Native.Nat.{ℕ, _≤_, _<_}
-use mathlib.Core.Path.{_≡_, refl, sym, ap, _∙_}
+use mathlib.Core.Path.{_≡_, refl}
 use mathlib.Core.List.{List}
 use lib.ListN.{length}
 use borrow.Author.Tests.{le-leb, lt-leb}
@@ -10,7 +10,7 @@ use Rattle.buffer.specs.declared.Verdict.the-variants.{Accepted, Refused}
 use Rattle.sheet.specs.Reading.{verdict}
 use Rattle.notice.specs.declared.Noticed.{Noticed}
 use Rattle.notice.specs.declared.Noticed.the-variants.{Done, Old, New, Short}
-use Rattle.notice.specs.Notice.{noticeText, answerOf, leftBy, NoticeGiven}
+use Rattle.notice.specs.Notice.{noticeText, NoticeGiven}
 
 module _ (old new out : List ℕ) where
   pub given-old : (number place : ℕ) → verdict old ≡ Refused number place → NoticeGiven old new out (Old number place) out

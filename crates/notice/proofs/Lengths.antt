@@ -1,8 +1,7 @@
 -- How long the lines of a slot can be: 35 bytes for a term's or a range's, 44 for an edge's, 26 for a sum's. Assumes nothing.
 use Prim.Native.Nat.{ℕ, zero, suc, _+_, _≤_, min, max}
-use mathlib.Core.Path.{_≡_, refl, ap, _∙_}
 use mathlib.Core.Bool.{Bool, true, false, cond}
-use mathlib.Core.List.{List, [], _∷_, _++_}
+use mathlib.Core.List.{List, [], _∷_}
 use native.Mathlib.Omega.{arith}
 use lib.Bits.{bitAnd, bitXor}
 use lib.Dec.{eqb}
@@ -11,14 +10,14 @@ use Rattle.lines.specs.Gather.{scattered}
 use Rattle.lines.specs.Same.{same}
 use Rattle.lut.specs.declared.Telling.{Telling}
 use Rattle.lut.specs.declared.Telling.the-variants.{Alike, One, Two}
-use Rattle.sheet.specs.Sections.{fieldOf, labelOf, descriptionOf}
+use Rattle.records.specs.Sections.{fieldOf, labelOf, descriptionOf}
 use Rattle.term.specs.Telling.{leastTelling, lowestLine}
 use Rattle.range.specs.Tell.{firstDiffer, tellMasks, tellBounds, tellReduced, tellingOf}
 use Rattle.range.specs.Reduce.{reduceOf}
 use Rattle.range.specs.declared.Range.{Range}
 use Rattle.edge.specs.Telling.{tellingEdge}
 use Rattle.notice.specs.declared.Finding.{Finding}
-use Rattle.notice.specs.declared.Finding.the-variants.{New, Gone, Name, Oper}
+use Rattle.notice.specs.declared.Finding.the-variants.{New, Gone, Name}
 use Rattle.notice.specs.declared.Line.{Line}
 use Rattle.notice.specs.Text.{renderAll}
 use Rattle.notice.specs.Findings.{rangeOf, edgeOf, told, termFinding, rangeFinding, edgeFinding, sumFinding, findingOf, line, unlessSame, sharedLines, slotLines}

@@ -1,15 +1,15 @@
 -- Which lines a notice has: a line is there exactly if the two records with its slot give it. Assumes nothing.
 use Prim.Native.Nat.{ℕ, zero, suc, _+_, _≤_, _<_}
-use mathlib.Core.Path.{_≡_, refl, sym, ap, _∙_, subst}
+use mathlib.Core.Path.{_≡_, refl, sym, ap, subst}
 use mathlib.Core.Bool.{Bool, true, false, cond}
-use mathlib.Core.List.{List, [], _∷_, _++_, cons≢nil, List·Memᴰ, List·Memᴰ·head, List·Memᴰ·not-nil, List·Memᴰ·append-cases, List·Memᴰ·eq-of-singleton, Memᴰ·append-left, Memᴰ·append-right}
+use mathlib.Core.List.{List, [], _∷_, List·Memᴰ, List·Memᴰ·head, List·Memᴰ·not-nil, List·Memᴰ·append-cases, List·Memᴰ·eq-of-singleton, Memᴰ·append-left, Memᴰ·append-right}
 use mathlib.Core.Logic.{_↔_, _⊎_, inl, inr, ⊎-elim}
 use native.Mathlib.Omega.{arith}
 use native.Mathlib.Decide.{ℕ-discrete}
 use lib.ListN.{getD}
 use Rattle.lines.specs.Same.{same}
-use Rattle.sheet.specs.Sections.{sections, mostOf, labelOf, descriptionOf}
-use Rattle.sheet.specs.Parts.{find}
+use Rattle.records.specs.Sections.{sections, mostOf, labelOf, descriptionOf}
+use Rattle.records.specs.Records.{find}
 use Rattle.sheet.specs.Parsed.{parse}
 use Rattle.notice.specs.declared.Finding.{Finding}
 use Rattle.notice.specs.declared.Finding.the-variants.{New, Gone, Name, Oper, Word, AltrOne, AltrTwo}

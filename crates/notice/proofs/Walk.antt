@@ -1,19 +1,19 @@
 -- The walk over a section's slots with a cursor into each sheet: the record at the cursor is the one with the slot, wherever it
 -- stands, and what is still to be written makes what was to be written. Assumes nothing.
 use Prim.Native.Nat.{ℕ, zero, suc, _+_, _-_, _*_, _≤_, _<_}
-use mathlib.Core.Path.{_≡_, refl, sym, ap, _∙_}
-use mathlib.Core.List.{List, [], _∷_, _++_}
+use mathlib.Core.Path.{_≡_, refl, ap, _∙_}
+use mathlib.Core.List.{List, [], _++_}
 use native.Mathlib.Omega.{arith}
 use native.Mathlib.Nat.{sub-zero}
 use native.Mathlib.Decide.{decLt, ℕ-discrete}
 use lib.ListN.{length, take, drop, length-append, length-drop, length-take}
 use Rattle.buffer.specs.Room.{write, Wrote}
 use Rattle.buffer.proofs.Writing.{Pending, pending-start, pending-write, pending-end}
-use Rattle.sheet.specs.Sections.{mostOf, recordSize, slotOf}
-use Rattle.sheet.specs.Parts.{recordsIn, find, front, after}
+use Rattle.records.specs.Sections.{mostOf, recordSize, slotOf}
+use Rattle.records.specs.Records.{recordsIn, find, front, after}
 use Rattle.sheet.specs.Parsed.{Ordered}
-use Rattle.sheet.proofs.Found.{front-find, after-find, after-ordered, cursor-next, front-short, front-here, front-other}
-use Rattle.notice.specs.declared.Line.{Line}
+use Rattle.records.proofs.Records.{cursor-next, front-short, front-here, front-other}
+use Rattle.sheet.proofs.Found.{front-find, after-find, after-ordered}
 use Rattle.notice.specs.Text.{renderAll}
 use Rattle.notice.specs.Findings.{slotLines}
 use Rattle.notice.specs.Notice.{linesFrom}

@@ -6,7 +6,7 @@ use lib.ListN.{getD}
 use Rattle.lines.specs.Same.{same}
 use Rattle.lut.specs.declared.Telling.{Telling}
 use Rattle.lut.specs.declared.Telling.the-variants.{Alike, One, Two}
-use Rattle.sheet.specs.Sections.{fieldOf, labelOf, descriptionOf}
+use Rattle.records.specs.Sections.{fieldOf, labelOf, descriptionOf}
 use Rattle.term.specs.Telling.{leastTelling}
 use Rattle.range.specs.Tell.{tellingOf}
 use Rattle.range.specs.declared.Range.{Range}

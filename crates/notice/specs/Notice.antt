@@ -2,15 +2,15 @@
 use Prim.Native.Nat.{ℕ, zero, suc, _+_}
 use mathlib.Core.Path.{_≡_}
 use mathlib.Core.Bool.{cond}
-use mathlib.Core.List.{List, [], _∷_, _++_}
+use mathlib.Core.List.{List, [], _++_}
 use lib.Dec.{leb}
 use lib.ListN.{length, getD}
 use Rattle.buffer.specs.Room.{fill}
 use Rattle.buffer.specs.declared.Verdict.{Verdict}
 use Rattle.buffer.specs.declared.Verdict.the-variants.{Accepted, Refused}
-use Rattle.sheet.specs.Sections.{sections, mostOf}
+use Rattle.records.specs.Sections.{sections, mostOf}
 use Rattle.sheet.specs.Reading.{verdict}
-use Rattle.sheet.specs.Parts.{find}
+use Rattle.records.specs.Records.{find}
 use Rattle.sheet.specs.Parsed.{parse}
 use Rattle.notice.specs.declared.Line.{Line}
 use Rattle.notice.specs.declared.Noticed.{Noticed}

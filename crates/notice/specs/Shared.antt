@@ -3,7 +3,7 @@ use mathlib.Core.List.{List, []}
 use mathlib.Core.Path.{_≡_}
 use Prim.Native.Nat.{ℕ}
 use lib.ListN.{getD}
-use Rattle.sheet.specs.Parts.{find}
+use Rattle.records.specs.Records.{find}
 use Rattle.sheet.specs.Parsed.{parse}
 
 -- the record of a sheet that has this slot in section k; [] if none has

@@ -20,18 +20,18 @@ fn told_finding(telling: Telling) -> Finding
 fn term_finding(old: &[u8], new: &[u8]) -> Finding
     ensures { λ r. ⌜ r ≡ termFinding (now (old .entry)) (now (new .entry)) ⌝ }
 {
-    let target = sheet::field(old, 0);
-    let mask = sheet::field(old, 1);
-    told_finding(term::least_telling(target, mask, sheet::field(new, 0), sheet::field(new, 1)))
+    let target = records::field(old, 0);
+    let mask = records::field(old, 1);
+    told_finding(term::least_telling(target, mask, records::field(new, 0), records::field(new, 1)))
 }
 
 fn range_of(bytes: &[u8]) -> Range
     ensures { λ r. ⌜ r ≡ rangeOf (now (bytes .entry)) ⌝ }
 {
     Range {
-        lower: sheet::field(bytes, 0),
-        upper: sheet::field(bytes, 1),
-        mask: sheet::field(bytes, 2),
+        lower: records::field(bytes, 0),
+        upper: records::field(bytes, 1),
+        mask: records::field(bytes, 2),
     }
 }
 
@@ -45,9 +45,9 @@ fn edge_of(bytes: &[u8]) -> Edge
     ensures { λ r. ⌜ r ≡ edgeOf (now (bytes .entry)) ⌝ }
 {
     Edge {
-        rise: sheet::field(bytes, 0),
-        fall: sheet::field(bytes, 1),
-        neither: sheet::field(bytes, 2),
+        rise: records::field(bytes, 0),
+        fall: records::field(bytes, 1),
+        neither: records::field(bytes, 2),
     }
 }
 

@@ -5,8 +5,7 @@ mod compare;
 mod put;
 mod text;
 
-ghost use mathlib.Core.Path.{_≡_};
-ghost use Rattle.notice.specs.Notice.{NoticeGiven, noticedNumber, noticedWhich, noticedPlace};
+ghost use Rattle.notice.specs.Notice.{NoticeGiven};
 use buffer::Verdict;
 
 // What a line says of a slot.
@@ -60,40 +59,4 @@ pub fn notice(old: &[u8], new: &[u8], out: &mut [u8]) -> Noticed
     }
     text::put(out, 0, &room[..n]);
     Noticed::Done(n)
-}
-
-// The refusal's number, 0 if it is none.
-pub fn noticed_number(noticed: Noticed) -> u8
-    ensures { λ r. ⌜ r ≡ noticedNumber noticed ⌝ }
-{
-    match noticed {
-        Noticed::Done(_) => 0,
-        Noticed::Old(number, _) => number,
-        Noticed::New(number, _) => number,
-        Noticed::Short(_) => 12,
-    }
-}
-
-// Which sheet is refused: 1 the old one, 2 the new one, 0 neither.
-pub fn noticed_which(noticed: Noticed) -> u8
-    ensures { λ r. ⌜ r ≡ noticedWhich noticed ⌝ }
-{
-    match noticed {
-        Noticed::Done(_) => 0,
-        Noticed::Old(_, _) => 1,
-        Noticed::New(_, _) => 2,
-        Noticed::Short(_) => 0,
-    }
-}
-
-// The length written, or the refusal's place.
-pub fn noticed_place(noticed: Noticed) -> usize
-    ensures { λ r. ⌜ r ≡ noticedPlace noticed ⌝ }
-{
-    match noticed {
-        Noticed::Done(length) => length,
-        Noticed::Old(_, place) => place,
-        Noticed::New(_, place) => place,
-        Noticed::Short(needed) => needed,
-    }
 }

@@ -4,9 +4,9 @@ ghost use Prim.Native.Nat.{_+_, _*_, _≤_, _<_};
 ghost use lib.ListN.{length};
 ghost use Rattle.buffer.specs.Room.{Wrote};
 ghost use Rattle.buffer.specs.declared.Verdict.the-variants.{Accepted};
-ghost use Rattle.sheet.specs.Sections.{mostOf, labelSize};
+ghost use Rattle.records.specs.Sections.{mostOf};
 ghost use Rattle.sheet.specs.Reading.{verdict};
-ghost use Rattle.sheet.specs.Parts.{recordsIn};
+ghost use Rattle.records.specs.Records.{recordsIn};
 ghost use Rattle.sheet.specs.Parsed.{Ordered};
 ghost use Rattle.notice.specs.Text.{renderAll};
 ghost use Rattle.notice.specs.Findings.{unlessSame, sharedLines, slotLines};
@@ -38,9 +38,9 @@ fn put_shared(out: &mut [u8], at: usize, section: usize, slot: u8, old: &[u8], n
         slot,
         finding: Finding::Name,
     };
-    let next = put_unless_same(out, at, sheet::label(old), sheet::label(new), name);
-    let old_description = sheet::description(old);
-    let new_description = sheet::description(new);
+    let next = put_unless_same(out, at, records::label(old), records::label(new), name);
+    let old_description = records::description(old);
+    let new_description = records::description(new);
     let change = Line {
         section,
         slot,
@@ -83,14 +83,14 @@ fn put_section(out: &mut [u8], from: usize, section: usize, old: &[u8], new: &[u
     requires { ⌜ Ordered section 0 (recordsIn section (now new)) ⌝ }
     ensures { λ r. ⌜ Wrote from (renderAll (linesFrom section (mostOf section) 0 (recordsIn section (now (old .entry))) (recordsIn section (now (new .entry))))) (now (out .entry)) (now (out .exit)) r ⌝ }
 {
-    let most = sheet::most(section);
+    let most = records::most(section);
     let mut at = from;
     let mut i: usize = 0;
     let mut j: usize = 0;
     let mut slot: usize = 0;
     while slot < most {
-        let a = sheet::record_with(old, section, i, slot as u8);
-        let b = sheet::record_with(new, section, j, slot as u8);
+        let a = records::record_with(old, section, i, slot as u8);
+        let b = records::record_with(new, section, j, slot as u8);
         at = put_slot(out, at, section, slot as u8, a, b);
         i += a.len();
         j += b.len();
@@ -108,7 +108,7 @@ pub(crate) fn put_sections(out: &mut [u8], old: &[u8], new: &[u8]) -> usize
 {
     let mut at: usize = 0;
     let mut section: usize = 0;
-    while section < sheet::SECTIONS {
+    while section < records::SECTIONS {
         let a = sheet::section_unchecked(old, section);
         let b = sheet::section_unchecked(new, section);
         at = put_section(out, at, section, a, b);

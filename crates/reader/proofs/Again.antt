@@ -14,7 +14,7 @@ use Rattle.buffer.specs.declared.Verdict.the-variants.{Accepted}
 use Rattle.buffer.proofs.Faults.{andThen-accepted}
 use Rattle.buffer.proofs.Numbers.{bytes-nil, bytes-drop}
 use Rattle.command.specs.Reading.{number}
-use Rattle.sheet.specs.Sections.{sections, mostOf, slotOf}
+use Rattle.records.specs.Sections.{sections, mostOf, slotOf}
 use Rattle.sheet.specs.Parsed.{render, Ordered, Sections, WellFormed}
 use Rattle.sheet.proofs.Descriptions.{bytes-rendered}
 use Rattle.compiler.specs.Items.{addressOf, item}

@@ -10,7 +10,7 @@ use lib.Dec.{leb, leb→le}
 use lib.ListN.{length, drop, length-drop}
 use Rattle.lines.proofs.Computed.{every-below}
 use Rattle.command.specs.Reading.{number}
-use Rattle.sheet.specs.Sections.{sections}
+use Rattle.records.specs.Sections.{sections}
 use Rattle.compiler.specs.Items.{kindOf, lengthsOf, sizeOf, itemSize}
 use Rattle.reader.specs.Addresses.{sectionAt}
 use Rattle.reader.specs.Judging.{stepSize, restsFrom, rests}

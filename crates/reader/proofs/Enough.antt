@@ -19,7 +19,7 @@ use Rattle.buffer.proofs.Faults.{andThen-accepted, andThen-assoc}
 use Rattle.buffer.proofs.Numbers.{u32-take}
 use Rattle.command.specs.Command.{selectOp, loadOp}
 use Rattle.command.specs.Reading.{number, commandVerdict, loadsVerdict, wordsIn}
-use Rattle.sheet.specs.Sections.{sections, rowOf, mostOf}
+use Rattle.records.specs.Sections.{sections, rowOf, mostOf}
 use Rattle.sheet.specs.Parsed.{render}
 use Rattle.compiler.specs.Items.{kindOf, addressOf, lengthsOf, sizeOf, itemSize}
 use Rattle.compiler.specs.Chains.{wordsRead}

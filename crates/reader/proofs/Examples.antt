@@ -25,7 +25,7 @@ use Rattle.edge.specs.Chain as edge-words
 use Rattle.edge.specs.Reading.{covers, wishFrom}
 use Rattle.sum.specs.Operation.{opCode, codesAccepted}
 use Rattle.sum.specs.Reading.{codesOf}
-use Rattle.sheet.specs.Sections.{rowOf, mostOf}
+use Rattle.records.specs.Sections.{rowOf, mostOf}
 use Rattle.sheet.specs.Parsed.{joined, render}
 use Rattle.compiler.specs.Items.{kindOf, addressOf, lengthsOf, sizeOf, itemSize}
 use Rattle.compiler.specs.Chains.{wordsRead}

@@ -18,9 +18,9 @@ use Rattle.buffer.proofs.Numbers.{bytes-cons, bytes-append, bytes-drop}
 use Rattle.buffer.proofs.Within.{within-bytes}
 use Rattle.command.specs.Command.{selectOp}
 use Rattle.command.specs.Reading.{number, commandVerdict}
-use Rattle.sheet.specs.Sections.{sections, labelSize, mostOf, descriptionSize, recordSize, descriptionFault, slotOf, labelOf, descriptionOf}
+use Rattle.records.specs.Sections.{sections, labelSize, mostOf, descriptionSize, recordSize, descriptionFault, slotOf, labelOf, descriptionOf}
 use Rattle.sheet.specs.Parsed.{Faultless}
-use Rattle.sheet.proofs.Bounds.{most-byte}
+use Rattle.records.proofs.Bounds.{most-byte}
 use Rattle.compiler.specs.Items.{kindOf, addressOf, lengthsOf, chainsOf, item, itemSize}
 use Rattle.compiler.specs.Chains.{wordsRead}
 use Rattle.compiler.proofs.ItemLaws.{chains-lengths, item-length, address-small, chains-some}

@@ -18,7 +18,7 @@ use Rattle.buffer.proofs.Faults.{andThen-assoc}
 use Rattle.command.specs.Command.{selectOp}
 use Rattle.command.specs.Reading.{number, commandVerdict, loadsVerdict}
 use Rattle.command.proofs.Checked.{command-ok}
-use Rattle.sheet.specs.Sections.{sections}
+use Rattle.records.specs.Sections.{sections}
 use Rattle.compiler.specs.Items.{kindOf, lengthsOf, sizeOf, itemSize}
 use Rattle.compiler.specs.Chains.{wordsRead}
 use Rattle.reader.specs.Addresses.{sectionAt}

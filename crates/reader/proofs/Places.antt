@@ -11,7 +11,7 @@ use borrow.Author.Tests.{eq-eqb, ne-eqb, lt-ltb, le-ltb}
 use lib.Dec.{T, eqb, eqb→eq}
 use lib.ListN.{length, getD}
 use Rattle.lines.proofs.Computed.{everyBelow, every-below}
-use Rattle.sheet.specs.Sections.{sections, rowOf, mostOf}
+use Rattle.records.specs.Sections.{sections, rowOf, mostOf}
 use Rattle.sum.specs.Address.{sumAddress}
 use Rattle.compiler.specs.Items.{kindOf, addressOf}
 use Rattle.compiler.specs.Stream.{sendingOrder}

@@ -12,10 +12,10 @@ use Rattle.buffer.specs.Bytes.{Bytes}
 use Rattle.buffer.specs.declared.Verdict.the-variants.{Accepted}
 use Rattle.buffer.proofs.Faults.{andThen-both}
 use Rattle.command.specs.Reading.{number}
-use Rattle.sheet.specs.Sections.{sections, mostOf, slotOf}
+use Rattle.records.specs.Sections.{sections, mostOf, slotOf}
 use Rattle.sheet.specs.Parsed.{Faultless, Ordered, parse}
 use Rattle.sheet.specs.Reading.{verdict}
-use Rattle.sheet.proofs.Bounds.{most-positive}
+use Rattle.records.proofs.Bounds.{most-positive}
 use Rattle.sheet.proofs.Descriptions.{bytes-parsed}
 use Rattle.sheet.proofs.Records.{section-ordered}
 use Rattle.compiler.specs.Items.{addressOf, item}

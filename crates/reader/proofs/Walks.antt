@@ -19,7 +19,7 @@ use Rattle.range.specs.Back.{readRange}
 use Rattle.edge.specs.Reading.{readEdge}
 use Rattle.sum.specs.Reading.{readSum}
 use Rattle.sum.specs.declared.ReadSum.{ReadSum}
-use Rattle.sheet.specs.Sections.{fieldBytes, sections}
+use Rattle.records.specs.Sections.{fieldBytes, sections}
 use Rattle.compiler.specs.Items.{kindOf, lengthsOf}
 use Rattle.compiler.specs.Chains.{wordsRead}
 use Rattle.reader.specs.Judging.{termBytes, rangeBytes, edgeBytes, sumBytes, backs, descriptionRead}

@@ -39,8 +39,8 @@ use Rattle.sum.specs.Chain.{wordsOf}
 use Rattle.sum.specs.Reading.{readSum, Says}
 use Rattle.sum.proofs.Back as sum-back
 use Rattle.sum.proofs.Theorems as sum
-use Rattle.sheet.specs.Sections.{fieldOf, fieldBytes, noFault, rangeFaultOf, edgeFaultOf, sumFaultOf, sections, rowOf, descriptionSize, descriptionFault}
-use Rattle.sheet.proofs.Faults.{edge-none, sum-none}
+use Rattle.records.specs.Sections.{fieldOf, fieldBytes, noFault, rangeFaultOf, edgeFaultOf, sumFaultOf, sections, rowOf, descriptionSize, descriptionFault}
+use Rattle.records.proofs.Faults.{edge-none, sum-none}
 use Rattle.sheet.proofs.Written.{fields-bytes, fields-read, fields-written}
 use Rattle.compiler.specs.Items.{kindOf, chainsOf}
 use Rattle.reader.specs.Judging.{termBytes, rangeBytes, edgeBytes, sumBytes, descriptionRead}

@@ -13,9 +13,9 @@ use Rattle.buffer.specs.declared.Verdict.the-variants.{Accepted}
 use Rattle.buffer.proofs.Faults.{andThen-accepted}
 use Rattle.buffer.proofs.Writing.{Pending, pending-start, pending-store, pending-step, pending-end}
 use Rattle.command.specs.Reading.{number}
-use Rattle.sheet.specs.Sections.{sections, recordSize}
+use Rattle.records.specs.Sections.{sections, recordSize}
 use Rattle.sheet.specs.Parsed.{joined, render}
-use Rattle.sheet.proofs.Bounds.{most-byte, section-bound}
+use Rattle.records.proofs.Bounds.{most-byte, section-bound}
 use Rattle.sheet.proofs.Parsed.{ordered-count, joined-length}
 use Rattle.compiler.specs.Items.{lengthsOf}
 use Rattle.compiler.specs.Chains.{wordsRead}

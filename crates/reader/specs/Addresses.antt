@@ -2,7 +2,7 @@
 use Prim.Native.Nat.{ℕ, zero, suc, _+_}
 use mathlib.Core.Bool.{cond}
 use lib.Dec.{eqb, ltb}
-use Rattle.sheet.specs.Sections.{sections, mostOf}
+use Rattle.records.specs.Sections.{sections, mostOf}
 use Rattle.compiler.specs.Items.{addressOf}
 
 -- of n slots of section k from `slot` on, the first whose item starts at the address; the one behind them if there is none

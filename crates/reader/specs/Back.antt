@@ -6,7 +6,7 @@ use lib.Dec.{eqb}
 use lib.ListN.{replicate}
 use Rattle.buffer.specs.Room.{Reply, unless}
 use Rattle.command.specs.Reading.{number}
-use Rattle.sheet.specs.Sections.{sections, labelSize}
+use Rattle.records.specs.Sections.{sections, labelSize}
 use Rattle.sheet.specs.Parsed.{render}
 use Rattle.reader.specs.Addresses.{sectionAt, slotAt}
 use Rattle.reader.specs.Judging.{descriptionIn, rests, streamVerdict}

@@ -5,7 +5,7 @@ use mathlib.Core.List.{List, [], _∷_, _++_, map}
 use lib.Bits.{bitAnd}
 use lib.Dec.{eqb}
 use Rattle.buffer.specs.Bytes.{u32Bytes}
-use Rattle.sheet.specs.Sections.{fieldOf, slotOf, descriptionOf}
+use Rattle.records.specs.Sections.{fieldOf, slotOf, descriptionOf}
 use Rattle.reader.specs.Back.{labelFor}
 
 -- 01, 'Refusal numbers': 'targets cut to the mask': a term's target AND mask, then its mask

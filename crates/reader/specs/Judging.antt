@@ -10,7 +10,7 @@ use Rattle.buffer.specs.declared.Verdict.{Verdict}
 use Rattle.buffer.specs.declared.Verdict.the-variants.{Accepted}
 use Rattle.command.specs.Command.{selectOp}
 use Rattle.command.specs.Reading.{number, commandVerdict, loadsVerdict}
-use Rattle.sheet.specs.Sections.{sections}
+use Rattle.records.specs.Sections.{sections}
 use Rattle.term.specs.Back.{readTerm}
 use Rattle.term.specs.declared.ReadTerm.{ReadTerm}
 use Rattle.term.specs.declared.ReadTerm.the-variants as ReadTerm

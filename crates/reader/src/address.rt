@@ -1,9 +1,9 @@
 // What an address starts: the section and the slot whose item is sent there.
 ghost use mathlib.Core.Path.{_≡_};
 ghost use Prim.Native.Nat.{_<_};
-ghost use Rattle.sheet.specs.Sections.{sections};
+ghost use Rattle.records.specs.Sections.{sections};
 ghost use Rattle.reader.specs.Addresses.{slotAt, sectionAt};
-use sheet::SECTIONS;
+use records::SECTIONS;
 
 // The section that has an address, SECTIONS if none has. A range's upper chain has no slot of its own.
 pub(crate) fn section_at(address: u32) -> usize

@@ -8,7 +8,7 @@ ghost use Rattle.term.specs.Back.{readTerm};
 ghost use Rattle.range.specs.Back.{readRange};
 ghost use Rattle.edge.specs.Reading.{readEdge};
 ghost use Rattle.sum.specs.Reading.{readSum};
-ghost use Rattle.sheet.specs.Sections.{fieldBytes};
+ghost use Rattle.records.specs.Sections.{fieldBytes};
 ghost use Rattle.compiler.specs.Items.{lengthsOf};
 ghost use Rattle.compiler.specs.Chains.{wordsRead};
 ghost use Rattle.reader.specs.Judging.{termBytes, rangeBytes, edgeBytes, sumBytes, descriptionRead};

@@ -3,16 +3,17 @@ ghost use mathlib.Core.Path.{_≡_};
 ghost use mathlib.Core.List.{[], _∷_};
 ghost use Prim.Native.Nat.{_+_, _<_};
 ghost use lib.ListN.{length, drop};
-ghost use Rattle.sheet.specs.Sections.{sections};
+ghost use Rattle.records.specs.Sections.{sections};
 ghost use Rattle.compiler.specs.Items.{lengthsOf};
 ghost use Rattle.compiler.specs.Chains.{wordsRead};
 ghost use Rattle.reader.specs.Judging.{descriptionRead, firstVerdict, chainsVerdict, itemVerdict, stepSize, streamVerdict};
 use crate::address::section_at;
 use crate::describe::put_description;
+use buffer::Outcome;
 use buffer::Verdict;
 use command::COMMAND_SIZE;
 use command::SELECT;
-use sheet::SECTIONS;
+use records::SECTIONS;
 
 // The refusal numbers of a select command's address and of an item's words.
 const BAD_ADDRESS: u8 = 15;
@@ -82,7 +83,10 @@ fn description_length(section: usize, item: &[u8]) -> usize
     ensures { λ r. ⌜ r ≡ length (descriptionRead section (wordsRead (lengthsOf section) (now (item .entry)))) ⌝ }
 {
     let mut room = [0u8; 12];
-    buffer::outcome_place(put_description(&mut room, section, item))
+    match put_description(&mut room, section, item) {
+        Outcome::Done(size) => size,
+        Outcome::Refused(_, needed) => needed,
+    }
 }
 
 // The item at `at`. `low` is the least address that it may have.

@@ -6,7 +6,7 @@ ghost use lib.ListN.{length};
 ghost use Rattle.buffer.specs.Room.{bytes, Delivered};
 ghost use Rattle.buffer.specs.declared.Verdict.the-variants.{Accepted};
 ghost use Rattle.command.specs.Reading.{number};
-ghost use Rattle.sheet.specs.Sections.{sections, recordSize};
+ghost use Rattle.records.specs.Sections.{sections, recordSize};
 ghost use Rattle.sheet.specs.Parsed.{render};
 ghost use Rattle.reader.specs.Addresses.{sectionAt};
 ghost use Rattle.reader.specs.Judging.{rests, streamVerdict};
@@ -17,8 +17,8 @@ use crate::describe::put_description;
 use crate::judge::behind_item;
 use buffer::OUTPUT_TOO_SHORT;
 use buffer::Outcome;
-use sheet::LABEL_SIZE;
-use sheet::SECTIONS;
+use records::LABEL_SIZE;
+use records::SECTIONS;
 
 // The label that the reader gives.
 const LABEL: [u8; LABEL_SIZE] = [0x20; LABEL_SIZE];
@@ -28,7 +28,7 @@ fn put_record(out: &mut [u8], section: usize, item: &[u8]) -> Outcome
     requires { ⌜ (section ≡ sectionAt (number (now item))) × (section < sections) × (length (recordIn (now item)) ≡ recordSize section) ⌝ }
     ensures { λ r. ⌜ Delivered (bytes (recordIn (now (item .entry)))) (now (out .entry)) r (now (out .exit)) ⌝ }
 {
-    let needed = sheet::record_size(section);
+    let needed = records::record_size(section);
     if out.len() < needed {
         return Outcome::Refused(OUTPUT_TOO_SHORT, needed);
     }
@@ -59,7 +59,7 @@ fn section_size(stream: &[u8], section: usize) -> usize
     requires { ⌜ (streamVerdict (now stream) ≡ Accepted) × (section < sections) ⌝ }
     ensures { λ r. ⌜ (r ≡ length (render (recordsOf section (rests (now (stream .entry))) ∷ []))) × (r ≤ 262144) ⌝ }
 {
-    1 + count_items(stream, section) * sheet::record_size(section)
+    1 + count_items(stream, section) * records::record_size(section)
 }
 
 // A section: its count, then the record of each of its items, each in the room behind the one before.
@@ -78,7 +78,7 @@ fn put_section(out: &mut [u8], stream: &[u8], section: usize) -> Outcome
         let next = behind_item(stream, at);
         if section_at(command::number_at(stream, at)) == section {
             put_record(&mut out[to..], section, buffer::suffix(stream, at));
-            to += sheet::record_size(section);
+            to += records::record_size(section);
         }
         at = next;
     }

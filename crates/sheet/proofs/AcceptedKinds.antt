@@ -12,7 +12,7 @@ use Rattle.range.specs.Rule.{RangeAccepted, rangeFault}
 use Rattle.range.proofs.Faults.{fault-0}
 use Rattle.edge.specs.Rule.{edgeAccepted}
 use Rattle.sum.specs.Operation.{codesAccepted}
-use Rattle.sheet.specs.Sections.{fieldBytes, faultIf, noFault, rangeFaultOf, edgeFaultOf, sumFaultOf, rowOf, sections, descriptionSize, descriptionFault}
+use Rattle.records.specs.Sections.{fieldBytes, faultIf, noFault, rangeFaultOf, edgeFaultOf, sumFaultOf, rowOf, sections, descriptionSize, descriptionFault}
 use Rattle.sheet.specs.Parsed.{AcceptedDescription}
 use Rattle.sheet.proofs.Descriptions.{description-complete, description-sound}
 use Rattle.sheet.proofs.Written.{fields-length, fields-bytes, fields-read}

@@ -12,11 +12,12 @@ use Rattle.buffer.specs.Bytes.{Bytes, allWithin}
 use Rattle.buffer.specs.Verdict.{isAccepted}
 use Rattle.buffer.specs.declared.Verdict.the-variants.{Accepted}
 use Rattle.buffer.proofs.Numbers.{bytes-nil, bytes-cons, bytes-append, bytes-take, bytes-drop}
-use Rattle.sheet.specs.Sections.{sections, labelSize, descriptionSize, descriptionFault, recordSize, slotOf, descriptionOf}
+use Rattle.records.specs.Sections.{sections, labelSize, descriptionSize, descriptionFault, recordSize, slotOf, descriptionOf}
 use Rattle.sheet.specs.Reading.{verdict}
-use Rattle.sheet.specs.Parts.{offsetOf, countOf, sectionUnchecked, sectionOf, recordAt, recordCount, recordsFrom, find}
+use Rattle.records.specs.Records.{recordAt, recordCount, recordsFrom, find}
+use Rattle.sheet.specs.Parts.{offsetOf, countOf, sectionUnchecked, sectionOf}
 use Rattle.sheet.specs.Parsed.{joined, render, Faultless, Ordered, Sections, WellFormed, parse, AcceptedDescription}
-use Rattle.sheet.proofs.Bounds.{most-byte, most-positive}
+use Rattle.records.proofs.Bounds.{most-byte, most-positive}
 use Rattle.sheet.proofs.Parsed.{ordered-count, render-accepted, parse-render}
 use Rattle.sheet.proofs.Reading.{section-unknown}
 use Rattle.sheet.proofs.Records.{section-parsed, section-ordered, section-joined, record-of, count-of, record-faultless}

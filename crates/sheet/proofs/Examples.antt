@@ -13,9 +13,9 @@ use Rattle.lines.specs.Line.{overLines}
 use Rattle.lines.proofs.Ones.{ones-in}
 use Rattle.range.specs.Rule.{rangeFault}
 use Rattle.sum.specs.Operation.{codesAccepted}
-use Rattle.sheet.specs.Sections.{fieldBytes, noFault, rangeFaultOf, edgeFaultOf, sumFaultOf, rowOf, mostOf, descriptionSize, descriptionFault, labelSize}
+use Rattle.records.specs.Sections.{fieldBytes, noFault, rangeFaultOf, edgeFaultOf, sumFaultOf, rowOf, mostOf, descriptionSize, descriptionFault, labelSize}
 use Rattle.sheet.specs.Reading.{recordFault, recordsVerdict, countVerdict, sectionVerdict, sectionsVerdict, verdict}
-use Rattle.sheet.specs.Parts.{recordsFrom}
+use Rattle.records.specs.Records.{recordsFrom}
 use Rattle.sheet.specs.Parsed.{joined, render, sectionsFrom, parse}
 use Rattle.sheet.proofs.Descriptions.{sheetWith, recordWith, onlySection, sheet-with}
 use Rattle.sheet.proofs.Written.{fields-length}

@@ -2,17 +2,16 @@
 use Prim.Native.Nat.{ℕ, zero, suc, _+_, _≤_, _<_}
 use mathlib.Core.List.{List, [], _∷_}
 use mathlib.Core.Path.{_≡_, refl, sym, _∙_}
-use native.Mathlib.Decide.{decLt, ℕ-discrete}
+use native.Mathlib.Decide.{ℕ-discrete}
 use native.Mathlib.Numerals.{add-one}
 use native.Mathlib.Omega.{arith}
 use borrow.Author.Tests.{eq-eqb, ne-eqb}
-use lib.ListN.{length, getD, take, drop, length-take}
-use lib.Seq.{drop-drop, length-take-le}
-use Rattle.sheet.specs.Sections.{recordSize, slotOf}
-use Rattle.sheet.specs.Parts.{recordsIn, find, front, after}
+use lib.ListN.{length, getD}
+use Rattle.records.specs.Sections.{slotOf}
+use Rattle.records.specs.Records.{find, front, after}
 use Rattle.sheet.specs.Parsed.{Ordered}
 use Rattle.sheet.proofs.Faults.{with-floor}
-use Rattle.sheet.proofs.Records.{record-faultless, records-cons, records-none}
+use Rattle.sheet.proofs.Records.{record-faultless}
 
 -- ---- the record with a slot
 
@@ -103,42 +102,3 @@ cursor-later (suc n) slot rs h = after-find n slot (cursor n rs) (omega arith) �
 -- the walk meets at each slot the record that has it
 pub cursor-find : {k : ℕ} {rs : List (List ℕ)} → Ordered k 0 rs → (slot : ℕ) → front slot (cursor slot rs) ≡ find slot rs
 cursor-find {rs = rs} o slot = front-find slot (cursor-ordered o slot) ∙ cursor-later slot slot rs (omega arith)
-
--- ---- the cursor as an offset in a section's part
-
--- what is left of the part begins with a whole record, with that slot or another, or it does not
-module _ (k : ℕ) (rest : List ℕ) (slot : ℕ) where
-  pub front-short : length (take (recordSize k) rest) < recordSize k → front slot (recordsIn k rest) ≡ []
-  unfolding front
-  front-short h = rw (records-none k rest (omega (arith, length-take (recordSize k) rest)))
-
-  module _ (h : recordSize k ≤ length (take (recordSize k) rest)) where
-    whole : recordSize k ≤ length rest
-    whole = omega (arith, length-take (recordSize k) rest)
-
-    pub front-here : slotOf (take (recordSize k) rest) ≡ slot → front slot (recordsIn k rest) ≡ take (recordSize k) rest
-    unfolding front
-    front-here e = rw (records-cons k rest whole, eq-eqb _ _ e)
-
-    pub front-other : (slotOf (take (recordSize k) rest) ≡ slot → ⊥) → front slot (recordsIn k rest) ≡ []
-    unfolding front
-    front-other e = rw (records-cons k rest whole, ne-eqb _ _ e)
-
-  -- what is left behind the record at the cursor
-  pub after-front : recordsIn k (drop (length (front slot (recordsIn k rest))) rest) ≡ after slot (recordsIn k rest)
-  unfolding front after
-  after-front = by-length (decLt (length rest) (recordSize k))
-    where
-      by-length : Dec (length rest < recordSize k) → recordsIn k (drop (length (front slot (recordsIn k rest))) rest) ≡ after slot (recordsIn k rest)
-      by-length (yes h) = rw (records-none k rest h) (records-none k rest h)
-      by-length (no h) =
-          let w : recordSize k ≤ length rest = omega arith in
-          elim (ℕ-discrete (slotOf (take (recordSize k) rest)) slot) [
-            | yes q ↦ rw (records-cons k rest w, eq-eqb _ _ q, length-take-le (recordSize k) rest w)
-            | no q ↦ rw (records-cons k rest w, ne-eqb _ _ q) (records-cons k rest w)
-          ]
-
--- the cursor behind the record that `record_with` hands out
-pub cursor-next : (k at : ℕ) (part : List ℕ) (slot : ℕ) (r : List ℕ) → r ≡ front slot (recordsIn k (drop at part))
-    → recordsIn k (drop (at + length r) part) ≡ after slot (recordsIn k (drop at part))
-cursor-next k at part slot r e = rw (e, ← drop-drop _ at part) (after-front k (drop at part) slot)

@@ -1,4 +1,3 @@
-pub mod Bounds
 pub mod Faults
 pub mod Reading
 pub mod Spanning

@@ -10,7 +10,7 @@ use lib.ListN.{length, getD, take, drop, length-append}
 use lib.Seq.{take-nil, take-take, getD-take}
 use Rattle.buffer.specs.declared.Verdict.the-variants.{Accepted}
 use Rattle.buffer.proofs.Faults.{andThen-same}
-use Rattle.sheet.specs.Sections.{sections, mostOf, recordSize, sectionSize, slotOf}
+use Rattle.records.specs.Sections.{sections, mostOf, recordSize, sectionSize, slotOf}
 use Rattle.sheet.specs.Reading.{nextRecord, recordsVerdict, sectionVerdict, sectionsVerdict, verdict}
 use Rattle.sheet.specs.Parsed.{joined, render, Sections}
 use Rattle.sheet.proofs.Parsed.{ordered-count, joined-length, accepted-well-formed, accepted-rendered}

@@ -12,9 +12,9 @@ use lib.Seq.{take-at, drop-at, drop-drop}
 use Rattle.buffer.specs.Verdict.{refuseFault}
 use Rattle.buffer.specs.declared.Verdict.the-variants.{Accepted}
 use Rattle.buffer.proofs.Faults.{andThen-accepted, refuseIf-accepted, refuseFault-accepted}
-use Rattle.sheet.specs.Sections.{sections, mostOf, recordSize, sectionSize, slotOf}
+use Rattle.records.specs.Sections.{sections, mostOf, recordSize, sectionSize, slotOf}
 use Rattle.sheet.specs.Reading.{recordFault, nextRecord, recordsVerdict, sectionVerdict, sectionsVerdict, verdict}
-use Rattle.sheet.specs.Parts.{recordsFrom}
+use Rattle.records.specs.Records.{recordsFrom}
 use Rattle.sheet.specs.Parsed.{joined, render, Ordered, Sections, WellFormed, sectionsFrom, parse}
 use Rattle.sheet.proofs.Faults.{no-fault}
 use Rattle.sheet.proofs.Reading.{then-next, next-faultless, counted, records-accepted, count-fits}

@@ -11,7 +11,7 @@ use Rattle.buffer.specs.Verdict.{andThen, refuseIf, refuseFault}
 use Rattle.buffer.specs.declared.Verdict.{Verdict}
 use Rattle.buffer.specs.declared.Verdict.the-variants.{Accepted, Refused}
 use Rattle.buffer.proofs.Faults.{andThen-accepted, refuseIf-accepted}
-use Rattle.sheet.specs.Sections.{sections, mostOf, recordSize, sectionSize, slotOf}
+use Rattle.records.specs.Sections.{sections, mostOf, recordSize, sectionSize, slotOf}
 use Rattle.sheet.specs.Reading.{recordFault, nextRecord, recordsVerdict, countVerdict, sectionVerdict, sectionsVerdict, verdict}
 use Rattle.sheet.proofs.Reading.{next-faultless, section-whole}
 

@@ -1,23 +1,23 @@
 -- The steps of reading a sheet, as the loops of `check_records` and `check` take them, and where an accepted sheet's sections lie.
 -- Assumes nothing.
 use borrow.Author.Tests.{lt-ltb, le-ltb, ltb-false}
-use native.Mathlib.Nat.{suc-mul, add-zero, le-of-lt, le-trans, mul-le-mul-right, div-mul-le-self, div-lt-iff-lt-mul}
+use native.Mathlib.Nat.{suc-mul, add-zero}
 use native.Mathlib.Numerals.{add-one}
 use native.Mathlib.Omega.{arith}
-use Prim.Native.Nat.{ℕ, zero, suc, _+_, _-_, _*_, _/_, _≤_, _<_}
+use Prim.Native.Nat.{ℕ, zero, suc, _+_, _-_, _*_, _≤_, _<_}
 use mathlib.Core.Bool.{Bool, true, false, cond, _&&_}
 use mathlib.Core.List.{List, []}
 use mathlib.Core.Path.{_≡_, refl, sym, ap, _∙_}
 use lib.Dec.{ltb}
 use lib.ListN.{length, getD, take, drop, length-take, length-drop, drop-of-length-le}
-use lib.Seq.{drop-drop, getD-drop, take-nil}
+use lib.Seq.{drop-drop, getD-drop}
 use Rattle.buffer.specs.Verdict.{andThen, refuseIf, refuseFault, isAccepted}
 use Rattle.buffer.specs.declared.Verdict.{Verdict}
 use Rattle.buffer.specs.declared.Verdict.the-variants.{Accepted, Refused}
 use Rattle.buffer.proofs.Faults.{andThen-accepted, refuseIf-accepted, refuseFault-accepted}
-use Rattle.sheet.specs.Sections.{sections, mostOf, recordSize, sectionSize, slotOf}
+use Rattle.records.specs.Sections.{sections, mostOf, recordSize, sectionSize, slotOf}
 use Rattle.sheet.specs.Reading.{recordFault, nextRecord, recordsVerdict, countVerdict, sectionVerdict, sectionsVerdict, verdict}
-use Rattle.sheet.specs.Parts.{offsetOf, countOf, sectionUnchecked, sectionOf, sectionStart, recordAt}
+use Rattle.sheet.specs.Parts.{offsetOf, countOf, sectionUnchecked, sectionOf, sectionStart}
 use Rattle.sheet.specs.Parsed.{Faultless}
 use Rattle.sheet.proofs.Faults.{faultless}
 
@@ -156,21 +156,11 @@ pub sections-done : (k at : ℕ) (s : List ℕ) → length s ≤ at → sections
 unfolding sectionsVerdict
 sections-done k at s h = rw (drop-of-length-le s h)
 
--- ---- where the sections and the records are
+-- ---- where the sections are
 
 pub offset-next : (s : List ℕ) (k : ℕ) → offsetOf s (k + 1) ≡ offsetOf s k + sectionSize k (getD s (offsetOf s k) 0)
 unfolding offsetOf
 offset-next s k = rw add-one
-
-module _ (k : ℕ) (part : List ℕ) (i : ℕ) where
-  pub record-past : length part / recordSize k < i → recordAt k part i ≡ []
-  unfolding recordAt
-  record-past h =
-      let past : length part < i * recordSize k = div-lt-iff-lt-mul {k = recordSize k} (omega arith) .0 h in
-      rw (drop-of-length-le part (le-of-lt past), take-nil (recordSize k))
-
-  pub record-within : i ≤ length part / recordSize k → i * recordSize k ≤ length part
-  record-within h = le-trans (mul-le-mul-right (recordSize k) h) (div-mul-le-self (length part) (recordSize k))
 
 -- ---- the sections of an accepted sheet
 

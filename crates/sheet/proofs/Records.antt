@@ -1,16 +1,17 @@
 -- The records of an accepted sheet, one by one: where they lie, and what holds of each. Assumes nothing.
-use native.Mathlib.Nat.{zero-mul, suc-mul, add-comm, add-zero, mul-div-cancel, div-eq-sub-div, div-eq-of-lt}
+use native.Mathlib.Nat.{zero-mul, suc-mul, add-comm, add-zero, mul-div-cancel}
 use native.Mathlib.Numerals.{add-one}
 use native.Mathlib.Omega.{arith}
 use Prim.Native.Nat.{ℕ, zero, suc, _+_, _-_, _*_, _≤_, _<_}
-use mathlib.Core.List.{List, [], _∷_, _++_, append-nil}
+use mathlib.Core.List.{List, [], _++_, append-nil}
 use mathlib.Core.Path.{_≡_, refl, _∙_}
-use lib.ListN.{length, getD, take, drop, length-drop}
+use lib.ListN.{length, getD, drop}
 use lib.Seq.{take-at, drop-at, drop-drop, getD-drop}
 use Rattle.buffer.specs.declared.Verdict.the-variants.{Accepted}
-use Rattle.sheet.specs.Sections.{sections, recordSize, sectionSize, slotOf}
+use Rattle.records.specs.Sections.{sections, recordSize, sectionSize, slotOf}
 use Rattle.sheet.specs.Reading.{verdict}
-use Rattle.sheet.specs.Parts.{offsetOf, countOf, sectionOf, recordAt, recordCount, recordsFrom, recordsIn}
+use Rattle.records.specs.Records.{recordAt, recordCount, recordsFrom, recordsIn}
+use Rattle.sheet.specs.Parts.{offsetOf, countOf, sectionOf}
 use Rattle.sheet.specs.Parsed.{joined, Faultless, Ordered, sectionsFrom, parse}
 use Rattle.sheet.proofs.Faults.{with-floor}
 use Rattle.sheet.proofs.Parsed.{joined-length, ordered-read, records-length, accepted-ordered, records-joined}
@@ -104,16 +105,3 @@ slots-rise (Ordered.next f o) zero zero l h = absurd (omega arith)
 slots-rise (Ordered.next f o) zero (suc j) l h = omega (arith, record-faultless o j (omega arith) .rising)
 slots-rise (Ordered.next f o) (suc i) zero l h = absurd (omega arith)
 slots-rise (Ordered.next f o) (suc i) (suc j) l h = slots-rise o i j (omega arith) (omega arith)
-
--- ---- the records of a part, one at a time
-
-module _ (k : ℕ) (part : List ℕ) where
-  pub records-cons : recordSize k ≤ length part → recordsIn k part ≡ take (recordSize k) part ∷ recordsIn k (drop (recordSize k) part)
-  unfolding recordsIn recordCount recordsFrom
-  records-cons h =
-      let p : 0 < recordSize k = omega arith in
-      rw (div-eq-sub-div p h, add-one, length-drop)
-
-  pub records-none : length part < recordSize k → recordsIn k part ≡ []
-  unfolding recordsIn recordCount recordsFrom
-  records-none h = rw (div-eq-of-lt h)

@@ -1,13 +1,13 @@
 -- Where a section's part lies, for a refused sheet, an empty part, and a part that has bytes. Assumes nothing.
-use borrow.Author.Tests.{eq-eqb, ne-eqb}
+use borrow.Author.Tests.{ne-eqb}
 use native.Mathlib.Decide.{decLt}
 use native.Mathlib.Omega.{arith}
 use Prim.Native.Nat.{ℕ, _+_, _<_}
 use mathlib.Core.List.{List}
-use mathlib.Core.Path.{_≡_, refl, sym, ap, _∙_}
+use mathlib.Core.Path.{_≡_, ap}
 use lib.ListN.{length}
 use Rattle.buffer.specs.declared.Verdict.the-variants.{Accepted, Refused}
-use Rattle.sheet.specs.Sections.{sections}
+use Rattle.records.specs.Sections.{sections}
 use Rattle.sheet.specs.Reading.{verdict}
 use Rattle.sheet.specs.Parts.{offsetOf, sectionUnchecked, partStart, spanOf}
 use Rattle.sheet.specs.declared.Span.{Span}

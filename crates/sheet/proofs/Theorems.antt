@@ -8,9 +8,10 @@ use lib.ListN.{length, getD, take}
 use Rattle.buffer.specs.Bytes.{Bytes}
 use Rattle.buffer.specs.declared.Verdict.the-variants.{Accepted, Refused}
 use Rattle.buffer.proofs.Within.{within-at}
-use Rattle.sheet.specs.Sections.{sections, rowOf, mostOf, descriptionSize, descriptionFault, slotOf, labelOf}
+use Rattle.records.specs.Sections.{sections, rowOf, mostOf, descriptionSize, descriptionFault, slotOf, labelOf}
 use Rattle.sheet.specs.Reading.{recordsVerdict, countVerdict, sectionVerdict, sectionsVerdict, verdict}
-use Rattle.sheet.specs.Parts.{sectionUnchecked, sectionOf, recordAt, recordCount, find, front}
+use Rattle.records.specs.Records.{recordAt, recordCount, find, front}
+use Rattle.sheet.specs.Parts.{sectionUnchecked, sectionOf}
 use Rattle.sheet.specs.Parsed.{joined, render, Faultless, WellFormed, parse, AcceptedDescription}
 use Rattle.sheet.proofs.AcceptedKinds.{accepted-description}
 use Rattle.sheet.proofs.Examples.{full, full-length, full-accepted}

@@ -10,7 +10,7 @@ use Rattle.buffer.specs.Bytes.{Bytes, u32At, u32Bytes}
 use Rattle.buffer.specs.Room.{fill}
 use Rattle.buffer.proofs.Numbers.{bytes-nil, bytes-append, bytes-drop, bytes-u32, u32-drop, u32-behind, u32-read, u32-written}
 use Rattle.buffer.proofs.Writing.{fill-all}
-use Rattle.sheet.specs.Sections.{labelSize, fieldOf, fieldBytes, rowOf, descriptionSize, recordSize, slotOf, labelOf, descriptionOf, sumOf}
+use Rattle.records.specs.Sections.{labelSize, fieldOf, fieldBytes, rowOf, descriptionSize, recordSize, slotOf, labelOf, descriptionOf, sumOf}
 
 pub fields-length : (ns : List ℕ) → length (fieldBytes ns) ≡ 4 * length ns
 unfolding fieldBytes

@@ -1,4 +1,3 @@
-pub mod Sections
 pub mod Reading
 pub mod Parts
 pub mod Parsed

@@ -6,9 +6,10 @@ use mathlib.Core.Path.{_≡_}
 use lib.ListN.{length, getD, drop}
 use Rattle.buffer.specs.Bytes.{Bytes, allWithin}
 use Rattle.buffer.specs.declared.Verdict.the-variants.{Accepted}
-use Rattle.sheet.specs.Sections.{sections, mostOf, recordSize, sectionSize, descriptionFault, slotOf, labelOf, descriptionOf}
+use Rattle.records.specs.Sections.{sections, mostOf, recordSize, sectionSize, descriptionFault, slotOf, labelOf, descriptionOf}
 use Rattle.sheet.specs.Reading.{verdict}
-use Rattle.sheet.specs.Parts.{sectionOf, recordAt, recordCount, recordsFrom}
+use Rattle.records.specs.Records.{recordAt, recordCount, recordsFrom}
+use Rattle.sheet.specs.Parts.{sectionOf}
 
 -- 01, 'The set-up sheet': records one after the other
 unfoldable pub joined : List (List ℕ) → List ℕ

@@ -9,7 +9,7 @@ use Rattle.buffer.specs.Bytes.{allWithin}
 use Rattle.buffer.specs.Verdict.{andThen, refuseIf, refuseFault}
 use Rattle.buffer.specs.declared.Verdict.{Verdict}
 use Rattle.buffer.specs.declared.Verdict.the-variants.{Accepted}
-use Rattle.sheet.specs.Sections.{faultIf, sections, mostOf, recordSize, sectionSize, descriptionFault, slotOf, labelOf, descriptionOf}
+use Rattle.records.specs.Sections.{faultIf, sections, mostOf, recordSize, sectionSize, descriptionFault, slotOf, labelOf, descriptionOf}
 
 -- 01, 'Refusal numbers': in a record of section k the checks go 1, then 3 to 10 rising; its slot has to be at least `floor`
 unfoldable pub recordFault : ℕ → ℕ → List ℕ → ℕ

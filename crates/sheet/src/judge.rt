@@ -4,19 +4,19 @@ ghost use mathlib.Core.Bool.{not, cond};
 ghost use lib.Dec.{eqb};
 ghost use lib.ListN.{drop};
 ghost use Rattle.buffer.specs.Bytes.{allWithin};
-ghost use Rattle.sheet.specs.Sections.{faultIf, rangeFaultOf, edgeFaultOf, sumFaultOf, descriptionFault};
+ghost use Rattle.records.specs.Sections.{faultIf};
 ghost use Rattle.sheet.specs.Reading.{recordFault, recordsVerdict, sectionVerdict, verdict};
-use crate::SECTIONS;
-use crate::fields::description;
-use crate::fields::field;
-use crate::fields::label;
-use crate::fields::slot;
-use crate::layout::most;
-use crate::layout::record_size;
-use crate::layout::section_size;
 use buffer::Verdict;
+use records::SECTIONS;
+use records::description;
+use records::description_fault;
+use records::label;
+use records::most;
+use records::record_size;
+use records::section_size;
+use records::slot;
 
-// The refusal numbers of a sheet; 6, 7 and 8 are a range's own. 0 is no fault.
+// The refusal numbers of a sheet; 6 to 10 are a description's own. 0 is no fault.
 const NO_FAULT: u8 = 0;
 
 const INCOMPLETE: u8 = 1;
@@ -29,54 +29,12 @@ const SLOT_NOT_RISING: u8 = 4;
 
 const BAD_LABEL: u8 = 5;
 
-const NEITHER_CLASH: u8 = 9;
-
-const BAD_OPERATION: u8 = 10;
-
 const LEFT_OVER: u8 = 11;
 
 // The first and the last byte that a label may have.
 const LABEL_FIRST: u8 = 0x20;
 
 const LABEL_LAST: u8 = 0x7e;
-
-fn range_fault(bytes: &[u8]) -> u8
-    ensures { λ r. ⌜ r ≡ rangeFaultOf (now (bytes .entry)) ⌝ }
-{
-    range::range_fault(field(bytes, 0), field(bytes, 1), field(bytes, 2))
-}
-
-fn edge_fault(bytes: &[u8]) -> u8
-    ensures { λ r. ⌜ r ≡ edgeFaultOf (now (bytes .entry)) ⌝ }
-{
-    if edge::edge_accepted(field(bytes, 0), field(bytes, 1), field(bytes, 2)) {
-        NO_FAULT
-    } else {
-        NEITHER_CLASH
-    }
-}
-
-fn sum_fault(bytes: &[u8]) -> u8
-    ensures { λ r. ⌜ r ≡ sumFaultOf (now (bytes .entry)) ⌝ }
-{
-    if sum::codes_accepted(bytes) {
-        NO_FAULT
-    } else {
-        BAD_OPERATION
-    }
-}
-
-// The first fault of a description in a section, 0 if it has none.
-pub fn description_fault(section: usize, bytes: &[u8]) -> u8
-    ensures { λ r. ⌜ r ≡ descriptionFault section (now (bytes .entry)) ⌝ }
-{
-    match section {
-        1 => range_fault(bytes),
-        2 => edge_fault(bytes),
-        3 => sum_fault(bytes),
-        _ => NO_FAULT,
-    }
-}
 
 // The fault of a label, 0 if it has none.
 fn label_fault(bytes: &[u8]) -> u8

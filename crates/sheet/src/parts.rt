@@ -1,17 +1,14 @@
-// The parts of a sheet: its sections, and their records.
+// The parts of a sheet: its sections.
 ghost use mathlib.Core.Path.{_≡_};
 ghost use Prim.Native.Nat.{_*_, _≤_, _<_};
-ghost use lib.ListN.{drop};
 ghost use Rattle.buffer.specs.Part.{Part};
-ghost use Rattle.sheet.specs.Sections.{sections};
-ghost use Rattle.sheet.specs.Parts.{offsetOf, sectionUnchecked, sectionOf, sectionStart, spanOf, recordCount, recordAt, recordsIn, front};
-use crate::SECTIONS;
+ghost use Rattle.records.specs.Sections.{sections};
+ghost use Rattle.sheet.specs.Parts.{offsetOf, sectionUnchecked, sectionOf, sectionStart, spanOf};
 use crate::Span;
-use crate::fields::slot;
 use crate::judge::check;
-use crate::layout::record_size;
-use crate::layout::section_size;
 use buffer::Verdict;
+use records::SECTIONS;
+use records::section_size;
 
 // The offset of a section's count, by the counts before it. A section has at most 262,144 bytes, whatever its count says.
 fn section_offset(sheet: &[u8], number: usize) -> usize
@@ -82,35 +79,4 @@ pub fn section_span(sheet: &[u8], number: usize) -> Span
         start: section_offset(sheet, number) + 1,
         size,
     }
-}
-
-// How many whole records a section's part holds.
-pub fn record_count(part: &[u8], number: usize) -> usize
-    ensures { λ r. ⌜ r ≡ recordCount number (now (part .entry)) ⌝ }
-{
-    part.len() / record_size(number)
-}
-
-// Record i of a section's part; empty past the end.
-pub fn record_at<'a>(part: &'a [u8], number: usize, i: usize) -> &'a [u8]
-    ensures { λ r. ⌜ now r ≡ recordAt number (now (part .entry)) i ⌝ }
-{
-    let size = record_size(number);
-    if part.len() / size < i {
-        return &part[..0];
-    }
-    buffer::prefix(buffer::suffix(part, i * size), size)
-}
-
-// The record of a section's part that starts at a cursor, if it is whole and has that slot; empty if not.
-// The cursor behind it is `at` and its length.
-pub fn record_with<'a>(part: &'a [u8], number: usize, at: usize, with: u8) -> &'a [u8]
-    ensures { λ r. ⌜ now r ≡ front with (recordsIn number (drop at (now (part .entry)))) ⌝ }
-{
-    let size = record_size(number);
-    let next = buffer::prefix(buffer::suffix(part, at), size);
-    if next.len() < size {
-        return &part[..0];
-    }
-    if slot(next) == with { next } else { &part[..0] }
 }

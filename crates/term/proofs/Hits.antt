@@ -1,48 +1,39 @@
 -- The model over the words of a pattern hits exactly where the plain rule does. Assumes nothing.
 use mathlib.Core.Path.{_≡_, refl, sym, ap, ap₂, _∙_}
-use mathlib.Core.Bool.{Bool, true, _&&_, and-assoc, and-comm, Bool·beq}
-use mathlib.Core.List.{List, [], _∷_}
+use mathlib.Core.Bool.{Bool, true, false, _&&_, and-comm}
 use Prim.Native.Nat.{ℕ, zero, suc, _+_, _*_, _/_, _%_, _^_, _<_}
 use native.Mathlib.Omega.{arith}
-use lib.Bits.{bitAnd, bitXor}
 use lib.Dec.{eqb, lit<}
 use lib.ListN.{length, getD}
-use Rattle.lines.specs.Line.{line, overLines}
-use Rattle.lines.proofs.Computed.{nibbles, every-within}
+use Rattle.lines.specs.Line.{overLines}
+use Rattle.lines.proofs.Digit.{line-mod}
 use Rattle.lines.proofs.Over.{lines-cong}
-use Rattle.lines.proofs.Truth.{agree}
-use Rattle.lut.specs.Table.{answerAt, high, low, wordOf, tableOf}
+use Rattle.lut.specs.Table.{answerAt, oneIf, high, low}
 use Rattle.lut.proofs.Halves.{high-half, low-half}
-use Rattle.lut.proofs.Tables.{table-lt}
+use Rattle.lut.proofs.Tables.{table-lt, table-answer}
 use Rattle.term.specs.Rule.{linesHit, termHit}
 use Rattle.term.specs.Words.{addressHit, nibbleTable, chainWord, wordsDown, termWords}
 use Rattle.term.specs.Model.{wordHit, chainHit}
-use Rattle.term.proofs.PlainRule.{hit-split}
+use Rattle.term.proofs.PlainRule.{hit-split, lines-formula}
 
 -- ---- one table
 
 -- the lowest four lines of a number are those of its lowest nibble
-line-nibble : (x i : ℕ) → i < 4 → line (x % 16) i ≡ line x i
-line-nibble x zero h = omega arith
-line-nibble x (suc zero) h = omega arith
-line-nibble x (suc (suc zero)) h = omega arith
-line-nibble x (suc (suc (suc zero))) h = omega arith
-line-nibble x (suc (suc (suc (suc i)))) h = absurd (omega arith)
-
 lines-nibble : (t m s : ℕ) → linesHit 4 (t % 16) (m % 16) (s % 16) ≡ linesHit 4 t m s
 lines-nibble t m s =
-    lines-cong _&&_ true 4 _ _ (λ i h. rw (line-nibble t i h, line-nibble m i h, line-nibble s i h))
+    lines-cong _&&_ true 4 _ _ (λ i h. rw (line-mod t 4 i h, line-mod m 4 i h, line-mod s 4 i h))
 
--- the table's rule: a test at the 256 targets and masks and the 16 addresses
-abbrev nibbleTest : List ℕ → Bool
-nibbleTest ds =
-    Bool·beq (eqb (answerAt (nibbleTable (getD ds 0 0) (getD ds 1 0)) (getD ds 2 0)) 1)
-    (linesHit 4 (getD ds 0 0) (getD ds 1 0) (getD ds 2 0))
+-- the table's rule: 01's formula at the address
+answers : (b : Bool) → eqb (oneIf b) 1 ≡ b
+answers true = refl
+answers false = refl
 
 pub nibble-hit : (t m s : ℕ) → eqb (answerAt (nibbleTable (t % 16) (m % 16)) (s % 16)) 1 ≡ linesHit 4 t m s
-unfolding nibbleTable tableOf overLines
+unfolding nibbleTable
 nibble-hit t m s =
-    agree _ _ (every-within (nibbles 3) nibbleTest tt (t % 16 ∷ m % 16 ∷ s % 16 ∷ []) (omega arith))
+    ap (λ (x : ℕ). eqb x 1) (table-answer (addressHit (t % 16) (m % 16)) 16 (s % 16) (omega arith))
+    ∙ answers (addressHit (t % 16) (m % 16) (s % 16))
+    ∙ lines-formula 4 (t % 16) (m % 16) (s % 16) (omega arith) (omega arith) (omega arith)
     ∙ lines-nibble t m s
 
 pub nibble-lt : (t m : ℕ) → nibbleTable t m < 65536

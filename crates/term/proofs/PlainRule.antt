@@ -2,12 +2,12 @@
 use mathlib.Core.Path.{_≡_, refl, ap, _∙_}
 use mathlib.Core.Bool.{Bool, true, _&&_, and-assoc, Bool·beq}
 use mathlib.Core.List.{List, [], _∷_}
-use Prim.Native.Nat.{ℕ, _+_, _/_, _%_, _^_, _<_}
+use Prim.Native.Nat.{ℕ, _+_, _/_, _^_, _<_}
 use native.Mathlib.Omega.{arith}
 use lib.Bits.{bitAnd, bitXor, and-lt, xor-lt}
 use lib.Dec.{eqb}
 use lib.ListN.{getD}
-use Rattle.lines.specs.Line.{line, everyLine}
+use Rattle.lines.specs.Line.{line}
 use Rattle.lines.proofs.Computed.{digits, every-within}
 use Rattle.lines.proofs.Digit.{line-up, line-and, line-xor}
 use Rattle.lines.proofs.Over.{lines-cong, lines-split, none-set, same-lines}

@@ -9,7 +9,7 @@ use native.Mathlib.Decide.{ℕ-discrete}
 use native.Mathlib.Omega.{arith}
 use borrow.Author.Tests.{eq-eqb, ne-eqb}
 use lib.Arith.{digits-lt}
-use lib.Bits.{bitAnd, bitXor, and-mod, and-shr, and-le-l}
+use lib.Bits.{bitAnd, and-mod, and-shr, and-le-l}
 use lib.Count.{trailingZeros}
 use lib.Dec.{T, eqb, eqb→eq, lit<}
 use lib.ListN.{length, getD}

@@ -1,6 +1,6 @@
 -- Equal words, the same pattern once cut, and hits alike on every sample are one thing, and `leastTelling` gives the least sample
 -- that tells two other patterns apart. Assumes nothing.
-use mathlib.Core.Path.{_≡_, sym, ap, ap₂, _∙_, subst}
+use mathlib.Core.Path.{_≡_, sym, ap, ap₂, _∙_}
 use mathlib.Core.Bool.{Bool, true, false, not}
 use mathlib.Core.Logic.{⊎-elim}
 use mathlib.Core.List.{List}

@@ -3,11 +3,10 @@ use mathlib.Core.Path.{_≡_, refl, sym, ap, _∙_, subst}
 use mathlib.Core.Bool.{true}
 use mathlib.Core.List.{List}
 use mathlib.Core.Logic.{_↔_}
-use Prim.Native.Nat.{ℕ, _%_, _^_, _<_}
+use Prim.Native.Nat.{ℕ, _^_, _<_}
 use native.Mathlib.Nat.{zero-div}
 use native.Mathlib.Omega.{arith}
 use lib.Bits.{bitAnd}
-use lib.Dec.{eqb}
 use Rattle.lines.specs.Line.{line}
 use Rattle.lines.proofs.Over.{every-all}
 use Rattle.lut.specs.Answer.{hitOrMiss}
@@ -17,7 +16,7 @@ use Rattle.lut.proofs.Runs.{run-needed}
 use Rattle.term.specs.Rule.{lineHit, termHit}
 use Rattle.term.specs.Words.{termWords}
 use Rattle.term.specs.Model.{chainHit, runTerm}
-use Rattle.term.specs.Back.{readTerm, ReadMeans, Writes}
+use Rattle.term.specs.Back.{readTerm, ReadMeans}
 use Rattle.term.specs.Telling.{leastTelling}
 use Rattle.term.specs.declared.ReadTerm.{ReadTerm}
 use Rattle.term.specs.declared.ReadTerm.the-variants.{Pattern, Refused}

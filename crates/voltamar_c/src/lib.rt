@@ -12,7 +12,11 @@ ghost use Rattle.reader.specs.Back.{readBack};
 ghost use Rattle.reader.specs.Meaning.{ReadSays};
 ghost use Rattle.notice.specs.Notice.{noticeText, leftBy, noticedNumber, noticedWhich, noticedPlace};
 ghost use Rattle.voltamar_c.specs.Noticing.{noticed};
+use hand::hand_noticed;
+use hand::hand_outcome;
+use hand::hand_verdict;
 
+mod hand;
 mod model;
 
 // The verdict on a sheet.
@@ -21,9 +25,7 @@ pub extern "C" fn voltamar_check(sheet: &[u8], place: &mut usize) -> u8
     ensures { λ r. ⌜ r ≡ verdictNumber (verdict (now (sheet .entry))) ⌝ }
     ensures { λ _. ⌜ now (place .exit) ≡ verdictPlace (verdict (now (sheet .entry))) ⌝ }
 {
-    let answer = sheet::check(sheet);
-    *place = buffer::verdict_place(answer);
-    buffer::verdict_number(answer)
+    hand_verdict(sheet::check(sheet), place)
 }
 
 // Where the part of the sheet lies that holds a section's records.
@@ -51,9 +53,7 @@ pub extern "C" fn voltamar_compile(sheet: &[u8], out: &mut [u8], place: &mut usi
     ensures { λ _. ⌜ now (place .exit) ≡ outcomePlace (outcome (compiled (now (sheet .entry))) (length (now (out .entry)))) ⌝ }
     ensures { λ _. ⌜ now (out .exit) ≡ after (compiled (now (sheet .entry))) (now (out .entry)) ⌝ }
 {
-    let answer = compiler::compile(sheet, out);
-    *place = buffer::outcome_place(answer);
-    buffer::outcome_number(answer)
+    hand_outcome(compiler::compile(sheet, out), place)
 }
 
 // The sheet that a command stream sets up, written at the start of `out`.
@@ -64,9 +64,7 @@ pub extern "C" fn voltamar_read(stream: &[u8], out: &mut [u8], place: &mut usize
     ensures { λ _. ⌜ now (out .exit) ≡ after (readBack (now (stream .entry))) (now (out .entry)) ⌝ }
     ensures meaning { λ _. ⌜ ReadSays (now (stream .entry)) (outcome (readBack (now (stream .entry))) (length (now (out .entry)))) (now (out .exit)) ⌝ }
 {
-    let answer = reader::read(stream, out);
-    *place = buffer::outcome_place(answer);
-    buffer::outcome_number(answer)
+    hand_outcome(reader::read(stream, out), place)
 }
 
 // The notice of two sheets, written at the start of `out`.
@@ -83,8 +81,5 @@ pub extern "C" fn voltamar_notice(
     ensures { λ _. ⌜ now (place .exit) ≡ noticedPlace (noticed (now (old .entry)) (now (new .entry)) (length (now (out .entry)))) ⌝ }
     ensures { λ _. ⌜ now (out .exit) ≡ leftBy (noticed (now (old .entry)) (now (new .entry)) (length (now (out .entry)))) (noticeText (now (old .entry)) (now (new .entry))) (now (out .entry)) ⌝ }
 {
-    let answer = notice::notice(old, new, out);
-    *which = notice::noticed_which(answer);
-    *place = notice::noticed_place(answer);
-    notice::noticed_number(answer)
+    hand_noticed(notice::notice(old, new, out), which, place)
 }

@@ -9,6 +9,7 @@ ghost use Rattle.range.specs.Model.{runRange};
 ghost use Rattle.edge.specs.Rule.{edgeHit};
 ghost use Rattle.edge.specs.Model.{runEdge};
 ghost use Rattle.sum.specs.Model.{runSum};
+use crate::hand::hand_answer;
 
 // The sample's masked lines, packed into a number.
 #[no_mangle]
@@ -30,10 +31,7 @@ pub extern "C" fn voltamar_run_term(
     ensures { λ _. ⌜ now (hit .exit) ≡ answerHit (runTerm (now (words .entry)) sample) ⌝ }
     ensures { λ _. ⌜ now (place .exit) ≡ answerPlace (runTerm (now (words .entry)) sample) ⌝ }
 {
-    let answer = term::run_term(words, sample);
-    *hit = lut::answer_hit(answer);
-    *place = lut::answer_place(answer);
-    lut::answer_number(answer)
+    hand_answer(term::run_term(words, sample), hit, place)
 }
 
 // A range's thirty-two words, the lower chain's first, run on a sample.
@@ -48,10 +46,7 @@ pub extern "C" fn voltamar_run_range(
     ensures { λ _. ⌜ now (hit .exit) ≡ answerHit (runRange (now (words .entry)) sample) ⌝ }
     ensures { λ _. ⌜ now (place .exit) ≡ answerPlace (runRange (now (words .entry)) sample) ⌝ }
 {
-    let answer = range::run_range(words, sample);
-    *hit = lut::answer_hit(answer);
-    *place = lut::answer_place(answer);
-    lut::answer_number(answer)
+    hand_answer(range::run_range(words, sample), hit, place)
 }
 
 // An edge's eight words, run on an earlier and a later sample.
@@ -67,10 +62,7 @@ pub extern "C" fn voltamar_run_edge(
     ensures { λ _. ⌜ now (hit .exit) ≡ answerHit (runEdge (now (words .entry)) earlier later) ⌝ }
     ensures { λ _. ⌜ now (place .exit) ≡ answerPlace (runEdge (now (words .entry)) earlier later) ⌝ }
 {
-    let answer = edge::run_edge(words, earlier, later);
-    *hit = lut::answer_hit(answer);
-    *place = lut::answer_place(answer);
-    lut::answer_number(answer)
+    hand_answer(edge::run_edge(words, earlier, later), hit, place)
 }
 
 // A sum's six words, run on the sixteen sources.
@@ -85,10 +77,7 @@ pub extern "C" fn voltamar_run_sum(
     ensures { λ _. ⌜ now (hit .exit) ≡ answerHit (runSum (now (words .entry)) sources) ⌝ }
     ensures { λ _. ⌜ now (place .exit) ≡ answerPlace (runSum (now (words .entry)) sources) ⌝ }
 {
-    let answer = sum::run_sum(words, sources);
-    *hit = lut::answer_hit(answer);
-    *place = lut::answer_place(answer);
-    lut::answer_number(answer)
+    hand_answer(sum::run_sum(words, sources), hit, place)
 }
 
 // The plain rule of a term.

@@ -1,10 +1,7 @@
 -- `lines::rank` meets its contract. Assumes nothing.
-use mathlib.Core.Path.{_≡_, sym, ap, _∙_}
-use Prim.Native.Nat.{ℕ, _%_, _^_}
+use mathlib.Core.Path.{sym}
 use native.Mathlib.Nat.{lt-of-lt-of-le}
-use native.Mathlib.Omega.{arith}
 use borrow.Author.Needs.{needs}
-use lib.Count.{ones}
 use lib.Pow.{pow-pos, pow-mono}
 use Rattle.lines.proofs.Digit.{shifted-one}
 use Rattle.lines.proofs.Ones.{ones-below, ones-in}

@@ -1,4 +1,6 @@
 -- `voltamar_c::voltamar_compile` meets its contract: what the callees ensure, put together. Assumes nothing.
+use mathlib.Core.Path.{_∙_, ap}
+use Rattle.buffer.specs.Verdict.{outcomeNumber, outcomePlace}
 use borrow.Author.Needs.{needs}
 use Rattle.voltamar_c.proofs.voltamar_compile.Statement.{statement}
 use Rattle.voltamar_c.proofs.voltamar_compile.Tie as tie
@@ -6,19 +8,18 @@ use Rattle.voltamar_c.proofs.voltamar_compile.Tie as tie
 compile-requires : tie.Need-compile-requires
 compile-requires c κs = search needs
 
-outcome-place-requires : tie.Need-outcome-place-requires
-outcome-place-requires c κs = search needs
-
-outcome-number-requires : tie.Need-outcome-number-requires
-outcome-number-requires c κs = search needs
+hand-outcome-requires : tie.Need-hand-outcome-requires
+hand-outcome-requires c κs = search needs
 
 same-length : tie.Need-same-length
 same-length c = search needs
 
 returns : tie.Need-returns
-returns c = (cc, (cc, cc))
+returns c =
+    let handed = c .hand-outcome .ensures in
+    let given = c .before .before .before .before .compile .ensures in
+    (handed .0 ∙ ap outcomeNumber (given .answer), (handed .1 ∙ ap outcomePlace (given .answer), given .left))
 
 pub voltamar-compile-spec : {M : Type 1} → statement M
 voltamar-compile-spec =
-    tie.close
-    (tie.spec compile-requires outcome-place-requires outcome-number-requires same-length returns)
+    tie.close (tie.spec compile-requires hand-outcome-requires same-length returns)

@@ -2,7 +2,7 @@
 -- Assumes nothing.
 use native.Mathlib.Omega.{arith}
 use Prim.Native.Nat.{_≤_, _-_}
-use mathlib.Core.Path.{_≡_, refl}
+use mathlib.Core.Path.{_≡_, _∙_, refl, sym}
 use lib.ListN.{length, drop}
 use denote.Ref.{now}
 use Rattle.buffer.specs.Bytes.{allWithin}
@@ -26,13 +26,13 @@ returns : tie.Need-returns Inv-loop μ-loop
 returns c =
     let p = c .before .before .before in
     let a = p .before .args in
-    cc (within-low (a .low) (a .high) (now (a .bytes)) (p .loop .i) (omega arith) (c .if1 .taken))
+    sym (p .loop .inv .1 ∙ within-low (a .low) (a .high) (now (a .bytes)) (p .loop .i) (omega arith) (c .if1 .taken))
 
 returns-2 : tie.Need-returns-2 Inv-loop μ-loop
 returns-2 c =
     let p = c .before .before .before .before in
     let a = p .before .args in
-    cc (within-high (a .low) (a .high) (now (a .bytes)) (p .loop .i) (omega arith) (omega arith) (c .if2 .taken))
+    sym (p .loop .inv .1 ∙ within-high (a .low) (a .high) (now (a .bytes)) (p .loop .i) (omega arith) (omega arith) (c .if2 .taken))
 
 add-i : tie.Need-add-i Inv-loop μ-loop
 add-i c = omega arith
@@ -44,13 +44,13 @@ loop-again : tie.Need-loop-again Inv-loop μ-loop
 loop-again c =
     let p = c .before .before .before .before in
     let a = p .before .args in
-    (omega arith, cc (within-next (a .low) (a .high) (now (a .bytes)) (p .loop .i) (omega arith) (omega arith) (c .if2 .left)))
+    (omega arith, p .loop .inv .1 ∙ within-next (a .low) (a .high) (now (a .bytes)) (p .loop .i) (omega arith) (omega arith) (c .if2 .left))
 
 returns-3 : tie.Need-returns-3 Inv-loop μ-loop
 returns-3 c =
     let p = c .before in
     let a = p .before .args in
-    cc (within-end (a .low) (a .high) (now (a .bytes)) (p .loop .i) (omega arith))
+    sym (p .loop .inv .1 ∙ within-end (a .low) (a .high) (now (a .bytes)) (p .loop .i) (omega arith))
 
 pub all-within-spec : {M : Type 1} → statement M
 all-within-spec =

@@ -1,5 +1,6 @@
 -- `buffer::u32_at` meets its contract: the number at an offset is the first of what lies from there on.
 -- Assumes nothing.
+use mathlib.Core.Path.{sym}
 use denote.Ref.{now}
 use Rattle.buffer.specs.Bytes.{u32At}
 use Rattle.buffer.proofs.Numbers.{u32-drop}
@@ -54,7 +55,9 @@ add-result-3 c = search needs
 
 returns : tie.Need-returns
 unfolding u32At
-returns c = cc (u32-drop (now (c .before .before .before .before .before .before .before .before .before .before .args .bytes)) (c .before .before .before .before .before .before .before .before .before .before .args .at))
+returns c =
+    let a = c .before .before .before .before .before .before .before .before .before .before .args in
+    rw (c .before .before .before .before .before .before .wide .ensures .0, c .before .before .before .before .before .before .before .byte-at .ensures, c .before .before .before .before .wide2 .ensures .0, c .before .before .before .before .before .byte-at2 .ensures, c .before .before .wide3 .ensures .0, c .before .before .before .byte-at3 .ensures, c .wide4 .ensures .0, c .before .byte-at4 .ensures, c .before .before .before .before .before .before .before .before .suffix .ensures) (sym (u32-drop (now (a .bytes)) (a .at)))
 
 pub u32-at-spec : {M : Type 1} → statement M
 u32-at-spec =

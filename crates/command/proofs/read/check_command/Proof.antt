@@ -1,9 +1,8 @@
 -- `command::check_command` meets its contract: at each `return` the tests that led there say which verdict it is.
 -- Assumes nothing.
 use Prim.Native.Nat.{ℕ}
-use mathlib.Core.Path.{_≡_, sym}
+use mathlib.Core.Path.{_∙_, sym, ap}
 use mathlib.Core.List.{List}
-use native.Mathlib.Omega.{arith}
 use Rattle.command.specs.Reading.{opcode}
 use denote.Ref.{now}
 use lib.ListN.{drop}
@@ -27,15 +26,15 @@ returns-2 : tie.Need-returns-2
 returns-2 c =
     let a = c .before .before .before .before .before .args in
     let s : List ℕ = drop (a .at) (now (a .stream)) in
-    let e : opcode s ≡ c .before .byte-at .result = cc in
-    sym (command-other (a .op) (a .at) s (rw (c .before .before .before .suffix .ensures) at (c .before .before .if1 .left)) (λ q. omega arith))
+    let e = c .before .byte-at .ensures ∙ ap opcode (c .before .before .before .suffix .ensures) in
+    sym (command-other (a .op) (a .at) s (rw (c .before .before .before .suffix .ensures) at (c .before .before .if1 .left)) (λ q. c .if2 .taken (e ∙ q)))
 
 returns-3 : tie.Need-returns-3
 returns-3 c =
     let a = c .before .before .before .before .before .args in
     let s : List ℕ = drop (a .at) (now (a .stream)) in
-    let e : opcode s ≡ c .before .byte-at .result = cc in
-    sym (command-there (a .op) (a .at) s (rw (c .before .before .before .suffix .ensures) at (c .before .before .if1 .left)) (omega arith))
+    let e = c .before .byte-at .ensures ∙ ap opcode (c .before .before .before .suffix .ensures) in
+    sym (command-there (a .op) (a .at) s (rw (c .before .before .before .suffix .ensures) at (c .before .before .if1 .left)) (sym e ∙ c .if2 .left))
 
 pub check-command-spec : {M : Type 1} → statement M
 check-command-spec =

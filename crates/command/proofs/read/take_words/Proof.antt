@@ -2,7 +2,7 @@
 -- from `i` on.
 -- Assumes nothing.
 use Prim.Native.Nat.{ℕ, zero-le, _+_, _-_, _≤_}
-use mathlib.Core.Path.{_≡_, refl}
+use mathlib.Core.Path.{_≡_, _∙_, refl, sym, ap₂}
 use mathlib.Core.List.{List, [], _∷_}
 use denote.Ref.{now}
 use lib.ListN.{length, drop}
@@ -55,8 +55,7 @@ loop-again c =
     let n : ℕ = length (now (c .before .before .before .before .before .before .args .into)) in
     let s : List ℕ = now (c .before .before .before .before .before .before .args .stream) in
     let k : n - l .i - 1 ≡ n - (l .i + 1) = omega arith in
-    let turn : wordsIn (n - l .i) (drop (l .from) s) ≡ c .before .number-at .result ∷ wordsIn (n - (l .i + 1)) (drop (c .behind .result) s) =
-    cc (k, words-turn (n - l .i) (drop (l .from) s) (omega arith)) in
+    let turn = words-turn (n - l .i) (drop (l .from) s) (omega arith) ∙ ap₂ (λ (w : ℕ) (ws : List ℕ). w ∷ ws) (sym (c .before .number-at .ensures)) (ap₂ wordsIn k (sym (c .behind .ensures))) in
     (omega arith, pending-store _ _ (l .i) _ (c .before .number-at .result) _ (l .into) turn (l .inv .1))
 
 same-length : tie.Need-same-length Inv-loop μ-loop

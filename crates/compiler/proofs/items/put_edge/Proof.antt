@@ -6,7 +6,7 @@ use mathlib.Core.List.{List}
 use borrow.Author.Needs.{needs}
 use denote.Ref.{now}
 use Rattle.command.specs.Command.{chain}
-use Rattle.sheet.specs.Sections.{fieldOf, descriptionOf}
+use Rattle.records.specs.Sections.{fieldOf, descriptionOf}
 use Rattle.edge.specs.Chain.{edgeWords}
 use Rattle.compiler.proofs.ItemLaws.{item-edge, delivers}
 use Rattle.compiler.proofs.items.put_edge.Statement.{statement}
@@ -45,11 +45,15 @@ put-chain-requires c κs = search needs
 same-length : tie.Need-same-length
 same-length c = search needs
 
+-- the words are those of the record's rise, fall and neither
+words : (c : tie.After-edge-words)
+    → c .edge-words .result ≡ edgeWords (fieldOf (descriptionOf (now (c .before .before .before .before .before .before .before .args .rec))) 0) (fieldOf (descriptionOf (now (c .before .before .before .before .before .before .before .args .rec))) 1) (fieldOf (descriptionOf (now (c .before .before .before .before .before .before .before .args .rec))) 2)
+words c = rw (c .before .before .before .field .ensures, c .before .before .field2 .ensures, c .before .field3 .ensures, c .before .before .before .before .description .ensures) at (c .edge-words .ensures)
+
 returns : tie.Need-returns
 returns c =
     let r : List ℕ = now (c .before .before .before .before .before .before .before .before .before .before .before .before .before .args .rec) in
-    let words : c .before .before .before .before .before .before .edge-words .result ≡ edgeWords (fieldOf (descriptionOf r) 0) (fieldOf (descriptionOf r) 1) (fieldOf (descriptionOf r) 2) = cc in
-    delivers (ap₂ chain (ap (λ (n : ℕ). 0x34 + n) (c .before .before .before .before .slot .ensures)) words ∙ sym (item-edge r)) (c .before .before .put-chain .ensures)
+    delivers (ap₂ chain (ap (λ (n : ℕ). 0x34 + n) (c .before .before .before .before .slot .ensures)) (words (c .before .before .before .before .before .before)) ∙ sym (item-edge r)) (c .before .before .put-chain .ensures)
 
 pub put-edge-spec : {M : Type 1} → statement M
 put-edge-spec =

@@ -5,7 +5,7 @@ use mathlib.Core.Path.{_≡_, sym, ap}
 use native.Mathlib.Omega.{arith}
 use borrow.Author.Needs.{needs}
 use denote.Ref.{now}
-use Rattle.sheet.specs.Sections.{slotOf}
+use Rattle.records.specs.Sections.{slotOf}
 use Rattle.compiler.specs.Items.{item}
 use Rattle.compiler.proofs.ItemLaws.{section-known, delivers}
 use Rattle.compiler.proofs.items.put_item.Statement.{statement}

@@ -6,7 +6,7 @@ use mathlib.Core.List.{List}
 use native.Mathlib.Omega.{arith}
 use borrow.Author.Needs.{needs}
 use denote.Ref.{now}
-use Rattle.sheet.specs.Sections.{descriptionOf}
+use Rattle.records.specs.Sections.{descriptionOf}
 use Rattle.compiler.specs.Items.{rangeChains, chainsFrom}
 use Rattle.compiler.proofs.ItemLaws.{item-range, range-lengths, delivers}
 use Rattle.compiler.proofs.items.put_range.Statement.{statement}
@@ -39,11 +39,12 @@ mul-put-pair c = search needs
 add-put-pair : tie.Need-add-put-pair
 add-put-pair c = search needs
 
+-- the chains are those of the record's description
+chains : (c : tie.After-range-words) → c .range-words .result ≡ rangeChains (descriptionOf (now (c .before .before .before .before .before .before .before .args .rec)))
+chains c = rw (c .before .before .before .field .ensures, c .before .before .field2 .ensures, c .before .field3 .ensures, c .before .before .before .before .description .ensures) at (c .range-words .ensures)
+
 put-pair-requires : tie.Need-put-pair-requires
-put-pair-requires c κs =
-    let r : List ℕ = now (c .before .before .before .before .before .before .before .before .before .args .rec) in
-    let chains : c .before .before .range-words .result ≡ rangeChains (descriptionOf r) = cc in
-    (omega arith, rw chains (range-lengths (descriptionOf r)))
+put-pair-requires c κs = (omega arith, rw (chains (c .before .before)) (range-lengths (descriptionOf (now (c .before .before .before .before .before .before .before .before .before .args .rec)))))
 
 same-length : tie.Need-same-length
 same-length c = search needs
@@ -51,8 +52,7 @@ same-length c = search needs
 returns : tie.Need-returns
 returns c =
     let r : List ℕ = now (c .before .before .before .before .before .before .before .before .before .before .before .before .args .rec) in
-    let chains : c .before .before .before .before .before .range-words .result ≡ rangeChains (descriptionOf r) = cc in
-    delivers (ap₂ chainsFrom (ap (λ (n : ℕ). 0x30 + 2 * n) (c .before .before .before .slot .ensures)) chains ∙ sym (item-range r)) (c .before .before .put-pair .ensures)
+    delivers (ap₂ chainsFrom (ap (λ (n : ℕ). 0x30 + 2 * n) (c .before .before .before .slot .ensures)) (chains (c .before .before .before .before .before)) ∙ sym (item-range r)) (c .before .before .put-pair .ensures)
 
 pub put-range-spec : {M : Type 1} → statement M
 put-range-spec =

@@ -6,7 +6,7 @@ use mathlib.Core.List.{List}
 use borrow.Author.Needs.{needs}
 use denote.Ref.{now}
 use Rattle.command.specs.Command.{chain}
-use Rattle.sheet.specs.Sections.{slotOf, descriptionOf}
+use Rattle.records.specs.Sections.{slotOf, descriptionOf}
 use Rattle.sum.specs.declared.Sum.{Sum}
 use Rattle.sum.specs.declared.SumWords.{SumWords}
 use Rattle.sum.specs.Chain.{wordsOf, sumWords}

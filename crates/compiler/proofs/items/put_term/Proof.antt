@@ -6,7 +6,7 @@ use mathlib.Core.List.{List}
 use borrow.Author.Needs.{needs}
 use denote.Ref.{now}
 use Rattle.command.specs.Command.{chain}
-use Rattle.sheet.specs.Sections.{fieldOf, descriptionOf}
+use Rattle.records.specs.Sections.{fieldOf, descriptionOf}
 use Rattle.term.specs.Words.{termWords}
 use Rattle.compiler.proofs.ItemLaws.{item-term, delivers}
 use Rattle.compiler.proofs.items.put_term.Statement.{statement}
@@ -42,11 +42,15 @@ put-chain-requires c κs = search needs
 same-length : tie.Need-same-length
 same-length c = search needs
 
+-- the words are those of the record's target and mask
+words : (c : tie.After-term-words)
+    → c .term-words .result ≡ termWords (fieldOf (descriptionOf (now (c .before .before .before .before .before .before .args .rec))) 0) (fieldOf (descriptionOf (now (c .before .before .before .before .before .before .args .rec))) 1)
+words c = rw (c .before .before .field .ensures, c .before .field2 .ensures, c .before .before .before .description .ensures) at (c .term-words .ensures)
+
 returns : tie.Need-returns
 returns c =
     let r : List ℕ = now (c .before .before .before .before .before .before .before .before .before .before .before .before .args .rec) in
-    let words : c .before .before .before .before .before .before .term-words .result ≡ termWords (fieldOf (descriptionOf r) 0) (fieldOf (descriptionOf r) 1) = cc in
-    delivers (ap₂ chain (ap (λ (n : ℕ). 0x20 + n) (c .before .before .before .before .slot .ensures)) words ∙ sym (item-term r)) (c .before .before .put-chain .ensures)
+    delivers (ap₂ chain (ap (λ (n : ℕ). 0x20 + n) (c .before .before .before .before .slot .ensures)) (words (c .before .before .before .before .before .before)) ∙ sym (item-term r)) (c .before .before .put-chain .ensures)
 
 pub put-term-spec : {M : Type 1} → statement M
 put-term-spec =

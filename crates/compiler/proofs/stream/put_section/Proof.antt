@@ -9,9 +9,10 @@ use borrow.Author.Needs.{needs}
 use denote.Ref.{now}
 use lib.ListN.{length-append, length, getD, drop}
 use Rattle.buffer.specs.declared.Verdict.the-variants.{Accepted}
-use Rattle.sheet.specs.Sections.{sections}
+use Rattle.records.specs.Sections.{sections}
 use Rattle.sheet.specs.Reading.{verdict}
-use Rattle.sheet.specs.Parts.{sectionUnchecked, recordCount, recordAt}
+use Rattle.records.specs.Records.{recordCount, recordAt}
+use Rattle.sheet.specs.Parts.{sectionUnchecked}
 use Rattle.buffer.specs.Room.{write}
 use Rattle.buffer.proofs.Writing.{wrote, too-short, Pending, pending-start, pending-step, pending-end}
 use Rattle.sheet.specs.Parsed.{parse}

@@ -8,9 +8,10 @@ use borrow.Author.Needs.{needs}
 use denote.Ref.{now}
 use lib.ListN.{length, getD}
 use Rattle.buffer.specs.declared.Verdict.the-variants.{Accepted}
-use Rattle.sheet.specs.Sections.{sections}
+use Rattle.records.specs.Sections.{sections}
 use Rattle.sheet.specs.Reading.{verdict}
-use Rattle.sheet.specs.Parts.{sectionUnchecked, recordCount}
+use Rattle.records.specs.Records.{recordCount}
+use Rattle.sheet.specs.Parts.{sectionUnchecked}
 use Rattle.sheet.specs.Parsed.{parse}
 use Rattle.compiler.specs.Items.{itemSize}
 use Rattle.compiler.specs.Stream.{items}

@@ -13,7 +13,7 @@ field-requires-3 : tie.Need-field-requires-3
 field-requires-3 c κs = search needs
 
 returns : tie.Need-returns
-returns c = cc
+returns c = rw (c .before .before .field .ensures, c .before .field2 .ensures, c .field3 .ensures)
 
 pub edge-of-spec : {M : Type 1} → statement M
 edge-of-spec = tie.close (tie.spec field-requires field-requires-2 field-requires-3 returns)

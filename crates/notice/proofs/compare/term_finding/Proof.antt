@@ -1,4 +1,6 @@
 -- `notice::compare::term_finding` meets its contract. Assumes nothing.
+use mathlib.Core.Path.{_∙_, ap}
+use Rattle.notice.specs.Findings.{told}
 use Rattle.notice.specs.Findings.{termFinding}
 use borrow.Author.Needs.{needs}
 use Rattle.notice.proofs.compare.term_finding.Statement.{statement}
@@ -24,7 +26,9 @@ told-finding-requires c κs = search needs
 
 returns : tie.Need-returns
 unfolding termFinding
-returns c = cc (c .before .least-telling .ensures .0)
+returns c =
+    let fields = c .before .before in
+    rw (fields .before .before .before .field .ensures, fields .before .before .field2 .ensures, fields .before .field3 .ensures, fields .field4 .ensures) at (c .told-finding .ensures ∙ ap told (c .before .least-telling .ensures .0))
 
 pub term-finding-spec : {M : Type 1} → statement M
 term-finding-spec =

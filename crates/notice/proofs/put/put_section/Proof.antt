@@ -1,11 +1,10 @@
 -- `notice::put::put_section` meets its contract: a walk over the slots, with a cursor into each sheet's records. Assumes nothing.
-use Prim.Native.Nat.{ℕ, _+_, _*_, _-_, _≤_, _<_}
-use mathlib.Core.Path.{_≡_, refl}
+use Prim.Native.Nat.{_-_}
+use mathlib.Core.Path.{_≡_}
 use native.Mathlib.Omega.{arith}
 use denote.Ref.{now}
-use lib.ListN.{length}
-use Rattle.sheet.specs.Sections.{mostOf}
-use Rattle.sheet.proofs.Bounds.{most-byte}
+use Rattle.records.specs.Sections.{mostOf}
+use Rattle.records.proofs.Bounds.{most-byte}
 use Rattle.notice.proofs.Walk.{Walking, walking-start, walking-turn, walking-end, cursor-fits}
 use borrow.Author.Needs.{needs}
 use Rattle.notice.proofs.put.put_section.Statement.{statement}

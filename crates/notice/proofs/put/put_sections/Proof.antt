@@ -3,7 +3,7 @@ use Prim.Native.Nat.{_-_}
 use mathlib.Core.Path.{sym}
 use native.Mathlib.Omega.{arith}
 use denote.Ref.{now}
-use Rattle.sheet.specs.Sections.{sections}
+use Rattle.records.specs.Sections.{sections}
 use Rattle.notice.proofs.Across.{part-ordered, Going, going-start, going-room, going-turn, going-end}
 use borrow.Author.Needs.{needs}
 use Rattle.notice.proofs.put.put_sections.Statement.{statement}

@@ -1,11 +1,10 @@
 -- `notice::put::put_shared` meets its contract: two writers in a row. Assumes nothing.
 use Prim.Native.Nat.{_≤_}
-use mathlib.Core.Path.{sym}
 use native.Mathlib.Omega.{arith}
 use denote.Ref.{now}
 use lib.ListN.{length}
 use Rattle.buffer.proofs.Writing.{wrote-then}
-use Rattle.sheet.specs.Sections.{labelOf}
+use Rattle.records.specs.Sections.{labelOf}
 use Rattle.notice.specs.Findings.{unlessSame, sharedLines, line}
 use Rattle.notice.specs.declared.Finding.the-variants.{Name}
 use Rattle.notice.proofs.Lengths.{name-length}

@@ -2,7 +2,7 @@
 use Prim.Native.Nat.{ℕ, _+_, _*_, _/_, _%_, _-_}
 use mathlib.Core.Path.{sym}
 use native.Mathlib.Omega.{arith}
-use Rattle.sheet.specs.Sections.{rowOf, mostOf}
+use Rattle.records.specs.Sections.{rowOf, mostOf}
 use Rattle.compiler.specs.Items.{kindOf, addressOf}
 use Rattle.reader.proofs.Places.{at-slot, unknown}
 use Rattle.reader.proofs.address.section_at.Statement.{statement}

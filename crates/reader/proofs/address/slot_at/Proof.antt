@@ -3,7 +3,7 @@ use Prim.Native.Nat.{_+_, _*_, _<_}
 use mathlib.Core.Path.{_≡_}
 use native.Mathlib.Omega.{arith}
 use Rattle.sum.specs.Address.{sumAddress}
-use Rattle.sheet.specs.Sections.{rowOf, mostOf}
+use Rattle.records.specs.Sections.{rowOf, mostOf}
 use Rattle.compiler.specs.Items.{kindOf, addressOf}
 use Rattle.reader.specs.Addresses.{slotAt}
 use Rattle.reader.proofs.Places.{known-place}

@@ -1,5 +1,5 @@
 -- `put_edge` meets its contract: the words are read, and the description that they give is written. Assumes nothing.
-use Rattle.sheet.specs.Sections.{fieldBytes}
+use Rattle.records.specs.Sections.{fieldBytes}
 use Rattle.compiler.proofs.ItemLaws.{delivers}
 use Rattle.reader.proofs.Walks.{told, nothing}
 use Rattle.edge.specs.Reading.{readEdge}

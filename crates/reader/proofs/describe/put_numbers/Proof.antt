@@ -9,7 +9,7 @@ use native.Mathlib.Omega.{arith}
 use Rattle.buffer.specs.Bytes.{u32Bytes}
 use Rattle.buffer.specs.Room.{write}
 use Rattle.buffer.proofs.Writing.{wrote, too-short, Pending, pending-start, pending-step, pending-end}
-use Rattle.sheet.specs.Sections.{fieldBytes}
+use Rattle.records.specs.Sections.{fieldBytes}
 use Rattle.sheet.proofs.Written.{fields-length}
 use Rattle.reader.proofs.Walks.{fields-from, fields-end}
 use borrow.Author.Needs.{needs}

@@ -1,6 +1,6 @@
 -- `put_range` meets its contract: the words are read, and the description that they give is written. Assumes nothing.
 use Rattle.range.specs.Back.{readRange}
-use Rattle.sheet.specs.Sections.{fieldBytes}
+use Rattle.records.specs.Sections.{fieldBytes}
 use Rattle.compiler.proofs.ItemLaws.{delivers}
 use Rattle.reader.specs.Judging.{rangeBytes}
 use Rattle.reader.proofs.Walks.{told, nothing}

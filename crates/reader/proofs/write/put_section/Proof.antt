@@ -8,7 +8,7 @@ use denote.Ref.{now}
 use lib.ListN.{length, drop, length-set}
 use Rattle.buffer.proofs.Writing.{wrote, too-short}
 use Rattle.command.specs.Reading.{number}
-use Rattle.sheet.specs.Sections.{recordSize}
+use Rattle.records.specs.Sections.{recordSize}
 use Rattle.sheet.specs.Parsed.{joined, render}
 use Rattle.reader.specs.Addresses.{sectionAt}
 use Rattle.reader.specs.Judging.{rests}

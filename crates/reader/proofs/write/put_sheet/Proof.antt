@@ -8,7 +8,7 @@ use denote.Ref.{now}
 use lib.ListN.{length, length-append}
 use Rattle.buffer.specs.Room.{write}
 use Rattle.buffer.proofs.Writing.{wrote, too-short, Pending, pending-start, pending-step, pending-end}
-use Rattle.sheet.specs.Sections.{sections}
+use Rattle.records.specs.Sections.{sections}
 use Rattle.sheet.specs.Parsed.{render}
 use Rattle.reader.specs.Judging.{rests}
 use Rattle.reader.specs.Back.{recordsOf, sectionsOf, sheetIn}

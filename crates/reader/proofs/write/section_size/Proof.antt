@@ -4,7 +4,7 @@ use mathlib.Core.Path.{_≡_, ap₂}
 use native.Mathlib.Omega.{arith}
 use denote.Ref.{now}
 use lib.ListN.{length}
-use Rattle.sheet.specs.Sections.{recordSize}
+use Rattle.records.specs.Sections.{recordSize}
 use Rattle.reader.specs.Judging.{rests}
 use Rattle.reader.specs.Back.{recordsOf}
 use Rattle.reader.proofs.Written.{section-length, section-small}

@@ -7,7 +7,7 @@ use native.Mathlib.Nat.{zero-add}
 use native.Mathlib.Omega.{arith}
 use denote.Ref.{now}
 use lib.ListN.{length, length-append}
-use Rattle.sheet.specs.Sections.{sections}
+use Rattle.records.specs.Sections.{sections}
 use Rattle.sheet.specs.Parsed.{render}
 use Rattle.reader.specs.Judging.{rests}
 use Rattle.reader.specs.Back.{recordsOf, sectionsOf, sheetIn}

@@ -2,12 +2,13 @@
 -- Assumes nothing.
 use borrow.Author.Needs.{needs}
 use native.Mathlib.Omega.{arith}
-use Prim.Native.Nat.{_+_, _-_, _≤_}
-use mathlib.Core.Path.{_≡_, refl}
+use Prim.Native.Nat.{ℕ, _+_, _-_, _≤_}
+use mathlib.Core.Path.{_≡_, _∙_, refl, sym, ap, ap₂}
 use lib.ListN.{getD, drop}
 use denote.Ref.{now}
-use Rattle.sheet.specs.Sections.{sections, sectionSize}
-use Rattle.sheet.specs.Reading.{sectionsVerdict, verdict}
+use Rattle.buffer.specs.declared.Verdict.the-variants.{Accepted}
+use Rattle.records.specs.Sections.{sections, sectionSize}
+use Rattle.sheet.specs.Reading.{sectionVerdict, sectionsVerdict, verdict}
 use Rattle.sheet.proofs.Reading.{section-fits, sections-next, sections-refuse, sections-over, sections-done}
 use Rattle.sheet.proofs.judge.check.Statement.{statement}
 use Rattle.sheet.proofs.judge.check.Tie as tie
@@ -30,10 +31,11 @@ enum-known-number c = search needs
 
 returns : tie.Need-returns Inv-loop μ-loop
 returns c =
-    let p = c .before .before .before .before .before in
-    let a = c .before .before .before .before .before .before .before .args in
+    let l = c .before .before .before .before .before .loop in
+    let s = now (c .before .before .before .before .before .before .before .args .sheet) in
     let g = c .before .number .given in
-    cc (sections-refuse (sections - p .loop .section) (p .loop .section) (p .loop .at) (now (a .sheet)) (g .0 .0) (g .0 .1 .0) (omega arith) (cc))
+    let refused = sym (c .before .before .before .check-section .ensures) ∙ g .1 in
+    sym (l .inv .1 ∙ sections-refuse (sections - l .section) (l .section) (l .at) s (g .0 .0) (g .0 .1 .0) (omega arith) refused)
 
 enum-told : tie.Need-enum-told Inv-loop μ-loop
 enum-told c = search needs
@@ -44,12 +46,22 @@ byte-at-requires c κs = search needs
 section-size-requires : tie.Need-section-size-requires Inv-loop μ-loop
 section-size-requires c κs = search needs
 
+-- the section was accepted, and how many bytes it has
+accepted : (c : tie.After-enum-told Inv-loop μ-loop)
+    → sectionVerdict (c .before .before .before .before .loop .section) (c .before .before .before .before .loop .at) (drop (c .before .before .before .before .loop .at) (now (c .before .before .before .before .before .before .args .sheet)))
+    ≡ Accepted
+accepted c = sym (c .before .before .check-section .ensures) ∙ c .enum-told .given .1
+
+size : (c : tie.After-section-size Inv-loop μ-loop)
+    → c .section-size .result
+    ≡ sectionSize (c .before .before .before .before .before .before .loop .section) (getD (now (c .before .before .before .before .before .before .before .before .args .sheet)) (c .before .before .before .before .before .before .loop .at) 0)
+size c = c .section-size .ensures ∙ ap (sectionSize (c .before .before .before .before .before .before .loop .section)) (c .before .byte-at .ensures)
+
 add-at : tie.Need-add-at Inv-loop μ-loop
 add-at c =
-    let p = c .before .before .before .before .before .before in
-    let a = c .before .before .before .before .before .before .before .before .args in
-    let n : c .section-size .result ≡ sectionSize (p .loop .section) (getD (now (a .sheet)) (p .loop .at) 0) = cc in
-    omega (arith, section-fits (p .loop .section) (p .loop .at) (now (a .sheet)) (cc))
+    let l = c .before .before .before .before .before .before .loop in
+    let s = now (c .before .before .before .before .before .before .before .before .args .sheet) in
+    omega (arith, size c, section-fits (l .section) (l .at) s (accepted (c .before .before)))
 
 add-section : tie.Need-add-section Inv-loop μ-loop
 add-section c = search needs
@@ -59,24 +71,28 @@ loop-less c = omega arith
 
 loop-again : tie.Need-loop-again Inv-loop μ-loop
 loop-again c =
-    let p = c .before .before .before .before .before .before in
-    let a = c .before .before .before .before .before .before .before .before .args in
-    let n : sections - (p .loop .section + 1) ≡ sections - p .loop .section - 1 = omega arith in
-    (omega arith, cc (sections-next (p .loop .section) (p .loop .at) (now (a .sheet)) (cc) (sections - p .loop .section) (omega arith)))
+    let l = c .before .before .before .before .before .before .loop in
+    let s = now (c .before .before .before .before .before .before .before .before .args .sheet) in
+    let n : sections - l .section - 1 ≡ sections - (l .section + 1) = omega arith in
+    let next = sections-next (l .section) (l .at) s (accepted (c .before .before)) (sections - l .section) (omega arith) in
+    (omega arith, l .inv .1 ∙ next ∙ ap₂ (λ (m w : ℕ). sectionsVerdict m (l .section + 1) (l .at + w) (drop (l .at + w) s)) n (sym (size c)))
+
+-- after the last section the verdict is that on what is left over
+last : (c : tie.At-loop Inv-loop μ-loop)
+    → sections - c .loop .section ≡ 0
+    → verdict (now (c .before .before .args .sheet)) ≡ sectionsVerdict 0 (c .loop .section) (c .loop .at) (drop (c .loop .at) (now (c .before .before .args .sheet)))
+last c none =
+    c .loop .inv .1 ∙ ap (λ (m : ℕ). sectionsVerdict m (c .loop .section) (c .loop .at) (drop (c .loop .at) (now (c .before .before .args .sheet)))) none
 
 returns-2 : tie.Need-returns-2 Inv-loop μ-loop
 returns-2 c =
-    let p = c .before .before in
-    let a = c .before .before .before .before .args in
-    let n : sections - p .loop .section ≡ 0 = omega arith in
-    cc (sections-over (p .loop .section) (p .loop .at) (now (a .sheet)) (omega arith))
+    let l = c .before .before .loop in
+    sym (last (c .before .before) (omega arith) ∙ sections-over (l .section) (l .at) (now (c .before .before .before .before .args .sheet)) (c .if1 .taken))
 
 returns-3 : tie.Need-returns-3 Inv-loop μ-loop
 returns-3 c =
-    let p = c .before .before in
-    let a = c .before .before .before .before .args in
-    let n : sections - p .loop .section ≡ 0 = omega arith in
-    cc (sections-done (p .loop .section) (p .loop .at) (now (a .sheet)) (omega arith))
+    let l = c .before .before .loop in
+    sym (last (c .before .before) (omega arith) ∙ sections-done (l .section) (l .at) (now (c .before .before .before .before .args .sheet)) (c .if1 .left))
 
 pub check-spec : {M : Type 1} → statement M
 check-spec =

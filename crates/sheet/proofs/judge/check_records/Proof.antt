@@ -2,10 +2,12 @@
 -- Assumes nothing.
 use borrow.Author.Needs.{needs}
 use native.Mathlib.Omega.{arith}
-use mathlib.Core.Path.{_≡_, refl}
-use lib.ListN.{drop}
+use Prim.Native.Nat.{ℕ, _+_, _-_}
+use mathlib.Core.Path.{_≡_, _∙_, refl, sym, ap, ap₂}
+use lib.ListN.{take, drop}
 use denote.Ref.{now}
-use Rattle.sheet.specs.Sections.{recordSize}
+use Rattle.buffer.specs.declared.Verdict.the-variants.{Refused}
+use Rattle.records.specs.Sections.{recordSize, slotOf}
 use Rattle.sheet.specs.Reading.{recordFault, nextRecord, recordsVerdict}
 use Rattle.sheet.proofs.Reading.{records-end, records-refuse, records-next, next-fits}
 use Rattle.sheet.proofs.judge.check_records.Statement.{statement}
@@ -34,12 +36,24 @@ prefix-requires c κs = search needs
 record-fault-requires : tie.Need-record-fault-requires Inv-loop μ-loop
 record-fault-requires c κs = search needs
 
+-- the next record, and its fault
+next : (c : tie.After-prefix Inv-loop μ-loop)
+    → now (c .prefix .result) ≡ nextRecord (c .before .before .before .before .before .before .args .section) (drop (c .before .before .before .loop .at) (now (c .before .before .before .before .before .before .args .sheet)))
+next c = c .prefix .ensures ∙ ap₂ take (c .before .before .before .loop .inv .0) (c .before .suffix .ensures)
+
+fault : (c : tie.After-record-fault Inv-loop μ-loop)
+    → c .record-fault .result
+    ≡ recordFault (c .before .before .before .before .before .before .before .args .section) (c .before .before .before .before .loop .floor) (nextRecord (c .before .before .before .before .before .before .before .args .section) (drop (c .before .before .before .before .loop .at) (now (c .before .before .before .before .before .before .before .args .sheet))))
+fault c =
+    let a = c .before .before .before .before .before .before .before .args in
+    c .record-fault .ensures ∙ ap (recordFault (a .section) (c .before .before .before .before .loop .floor)) (next (c .before))
+
 returns : tie.Need-returns Inv-loop μ-loop
 returns c =
-    let p = c .before .before .before .before .before in
+    let f = fault (c .before) in
+    let l = c .before .before .before .before .before .loop in
     let a = c .before .before .before .before .before .before .before .before .args in
-    let e : c .before .record-fault .result ≡ recordFault (a .section) (p .loop .floor) (nextRecord (a .section) (drop (p .loop .at) (now (a .sheet)))) = cc in
-    cc (records-refuse (a .section) (p .loop .floor) (p .loop .at) (now (a .sheet)) (p .loop .left) (omega arith) (λ z. c .if1 .taken (cc)))
+    ap (λ (n : ℕ). Refused n (l .at)) f ∙ sym (records-refuse (a .section) (l .floor) (l .at) (now (a .sheet)) (l .left) (omega arith) (λ z. c .if1 .taken (f ∙ z))) ∙ sym (l .inv .1)
 
 slot-requires : tie.Need-slot-requires Inv-loop μ-loop
 slot-requires c κs = search needs
@@ -52,9 +66,9 @@ add-floor c = search needs
 
 add-at : tie.Need-add-at Inv-loop μ-loop
 add-at c =
-    let p = c .before .before .before .before .before .before in
+    let l = c .before .before .before .before .before .before .loop in
     let a = c .before .before .before .before .before .before .before .before .before .args in
-    omega (arith, next-fits (a .section) (p .loop .floor) (p .loop .at) (now (a .sheet)) (cc))
+    omega (arith, next-fits (a .section) (l .floor) (l .at) (now (a .sheet)) (sym (fault (c .before .before)) ∙ c .before .if1 .left))
 
 sub-left : tie.Need-sub-left Inv-loop μ-loop
 sub-left c = search needs
@@ -64,16 +78,19 @@ loop-less c = omega arith
 
 loop-again : tie.Need-loop-again Inv-loop μ-loop
 loop-again c =
-    let p = c .before .before .before .before .before .before in
+    let l = c .before .before .before .before .before .before .loop in
     let a = c .before .before .before .before .before .before .before .before .before .args in
-    (p .loop .inv .0, cc (records-next (a .section) (p .loop .floor) (p .loop .at) (now (a .sheet)) (p .loop .left) (omega arith) (cc)))
+    let slot = c .slot .ensures ∙ ap slotOf (next (c .before .before .before)) in
+    let clean = sym (fault (c .before .before)) ∙ c .before .if1 .left in
+    (l .inv .0, l .inv .1 ∙ records-next (a .section) (l .floor) (l .at) (now (a .sheet)) (l .left) (omega arith) clean ∙ ap₂ (λ (f w : ℕ). recordsVerdict (a .section) (l .left - 1) (f + 1) (l .at + w) (drop (l .at + w) (now (a .sheet)))) (sym slot) (sym (l .inv .0)))
 
 returns-2 : tie.Need-returns-2 Inv-loop μ-loop
 returns-2 c =
-    let p = c .before in
+    let l = c .before .loop in
     let a = c .before .before .before .before .args in
-    let z : p .loop .left ≡ 0 = omega arith in
-    cc (records-end (a .section) (p .loop .floor) (p .loop .at) (drop (p .loop .at) (now (a .sheet))))
+    let rest = drop (l .at) (now (a .sheet)) in
+    let z : l .left ≡ 0 = omega arith in
+    sym (l .inv .1 ∙ ap (λ (n : ℕ). recordsVerdict (a .section) n (l .floor) (l .at) rest) z ∙ records-end (a .section) (l .floor) (l .at) rest)
 
 pub check-records-spec : {M : Type 1} → statement M
 check-records-spec =

@@ -1,8 +1,11 @@
 -- `sheet::check_section` meets its contract: one law for each way out. Assumes nothing.
 use borrow.Author.Needs.{needs}
 use native.Mathlib.Omega.{arith}
-use mathlib.Core.Path.{sym}
+use Prim.Native.Nat.{ℕ, _+_}
+use mathlib.Core.Path.{_∙_, sym, ap}
+use lib.ListN.{drop}
 use denote.Ref.{now}
+use Rattle.sheet.specs.Reading.{recordsVerdict}
 use Rattle.sheet.proofs.Reading.{section-short, section-many, section-records}
 use Rattle.sheet.proofs.judge.check_section.Statement.{statement}
 use Rattle.sheet.proofs.judge.check_section.Tie as tie
@@ -35,7 +38,10 @@ check-records-requires c κs = search needs
 returns-3 : tie.Need-returns-3
 returns-3 c =
     let a = c .before .before .before .before .before .before .args in
-    cc (section-records (a .section) (a .at) (now (a .sheet)) (omega arith) (omega arith))
+    let s = now (a .sheet) in
+    c .check-records .ensures
+    ∙ ap (λ (n : ℕ). recordsVerdict (a .section) n 0 (a .at + 1) (drop (a .at + 1) s)) (c .before .before .before .byte-at .ensures)
+    ∙ sym (section-records (a .section) (a .at) s (omega arith) (omega arith))
 
 pub check-section-spec : {M : Type 1} → statement M
 check-section-spec =

@@ -1,6 +1,6 @@
 -- `sheet::label_fault` meets its contract. Assumes nothing.
 use borrow.Author.Needs.{needs}
-use mathlib.Core.Path.{_≡_}
+use mathlib.Core.Path.{_≡_, _∙_, sym}
 use mathlib.Core.Bool.{true, false}
 use denote.Ref.{now}
 use Rattle.buffer.specs.Bytes.{allWithin}
@@ -12,12 +12,12 @@ all-within-requires c κs = search needs
 
 returns : tie.Need-returns
 returns c =
-    let e : allWithin 0x20 0x7E (now (c .before .before .before .args .bytes)) ≡ true = cc in
+    let e : allWithin 0x20 0x7E (now (c .before .before .before .args .bytes)) ≡ true = sym (c .before .all-within .ensures) ∙ c .if1 .taken in
     rw e
 
 returns-2 : tie.Need-returns-2
 returns-2 c =
-    let e : allWithin 0x20 0x7E (now (c .before .before .before .args .bytes)) ≡ false = cc in
+    let e : allWithin 0x20 0x7E (now (c .before .before .before .args .bytes)) ≡ false = sym (c .before .all-within .ensures) ∙ c .if1 .left in
     rw e
 
 pub label-fault-spec : {M : Type 1} → statement M

@@ -1,9 +1,9 @@
 -- `sheet::record_fault` meets its contract: one law for each way out. Assumes nothing.
 use borrow.Author.Needs.{needs}
 use native.Mathlib.Omega.{arith}
-use mathlib.Core.Path.{sym}
+use mathlib.Core.Path.{_∙_, sym, ap₂}
 use denote.Ref.{now}
-use Rattle.sheet.proofs.Faults.{record-short, record-slot, record-order, record-rest}
+use Rattle.sheet.proofs.Faults.{firstFault, record-short, record-slot, record-order, record-rest}
 use Rattle.sheet.proofs.judge.record_fault.Statement.{statement}
 use Rattle.sheet.proofs.judge.record_fault.Tie as tie
 
@@ -52,7 +52,9 @@ first-fault-requires c κs = search needs
 returns-4 : tie.Need-returns-4
 returns-4 c =
     let a = c .before .before .before .before .before .before .before .before .before .before .before .before .args in
-    cc (record-rest (a .section) (a .floor) (now (a .bytes)) (omega arith) (omega arith) (omega arith))
+    let of-label = rw (c .before .before .before .before .label .ensures) at (c .before .before .before .label-fault .ensures) in
+    let of-description = rw (c .before .before .description .ensures) at (c .before .description-fault .ensures) in
+    c .first-fault .ensures ∙ ap₂ firstFault of-label of-description ∙ sym (record-rest (a .section) (a .floor) (now (a .bytes)) (omega arith) (omega arith) (omega arith))
 
 pub record-fault-spec : {M : Type 1} → statement M
 record-fault-spec =

@@ -2,12 +2,13 @@
 -- Assumes nothing.
 use borrow.Author.Needs.{needs}
 use native.Mathlib.Omega.{arith}
-use Prim.Native.Nat.{_-_, _*_, _≤_}
-use mathlib.Core.Path.{_≡_, refl}
+use Prim.Native.Nat.{ℕ, _+_, _-_, _*_, _≤_}
+use mathlib.Core.Path.{_≡_, _∙_, refl, sym, ap, ap₂}
+use lib.ListN.{getD}
 use denote.Ref.{now}
-use Rattle.sheet.specs.Sections.{sectionSize}
+use Rattle.records.specs.Sections.{sectionSize}
 use Rattle.sheet.specs.Parts.{offsetOf}
-use Rattle.sheet.proofs.Bounds.{section-bound}
+use Rattle.records.proofs.Bounds.{section-bound}
 use Rattle.sheet.proofs.Reading.{offset-next}
 use Rattle.sheet.proofs.parts.section_offset.Statement.{statement}
 use Rattle.sheet.proofs.parts.section_offset.Tie as tie
@@ -31,8 +32,7 @@ section-size-requires c κs = search needs
 add-at : tie.Need-add-at Inv-loop μ-loop
 add-at c =
     let p = c .before .before .before in
-    let e : c .section-size .result ≡ sectionSize (p .loop .section) (c .before .byte-at .result) = cc in
-    omega (arith, section-bound (p .loop .section) (c .before .byte-at .result) (omega arith))
+    omega (arith, c .section-size .ensures, section-bound (p .loop .section) (c .before .byte-at .result) (omega arith))
 
 add-section : tie.Need-add-section Inv-loop μ-loop
 add-section c = search needs
@@ -43,10 +43,12 @@ loop-less c = omega arith
 loop-again : tie.Need-loop-again Inv-loop μ-loop
 loop-again c =
     let p = c .before .before .before in
-    let e : c .section-size .result ≡ sectionSize (p .loop .section) (c .before .byte-at .result) = cc in (
+    let s = now (c .before .before .before .before .before .args .sheet) in
+    let at = p .loop .inv .1 in
+    let size = c .section-size .ensures ∙ ap (sectionSize (p .loop .section)) (c .before .byte-at .ensures ∙ ap (λ (i : ℕ). getD s i 0) at) in (
       omega arith,
-      cc (offset-next (now (c .before .before .before .before .before .args .sheet)) (p .loop .section)),
-      omega (arith, section-bound (p .loop .section) (c .before .byte-at .result) (omega arith)),
+      ap₂ _+_ at size ∙ sym (offset-next s (p .loop .section)),
+      omega (arith, c .section-size .ensures, section-bound (p .loop .section) (c .before .byte-at .result) (omega arith)),
     )
 
 returns : tie.Need-returns Inv-loop μ-loop
@@ -54,7 +56,7 @@ returns c =
     let p = c .before in
     let a = c .before .before .before .args in
     let e : p .loop .section ≡ a .number = omega arith in
-    (cc, omega arith)
+    (p .loop .inv .1 ∙ ap (offsetOf (now (a .sheet))) e, omega arith)
 
 pub section-offset-spec : {M : Type 1} → statement M
 section-offset-spec =

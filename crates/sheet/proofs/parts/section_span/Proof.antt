@@ -6,7 +6,6 @@ use mathlib.Core.Path.{_≡_, sym, ap, _∙_}
 use denote.Ref.{now}
 use lib.ListN.{length}
 use Rattle.buffer.specs.declared.Verdict.the-variants.{Accepted}
-use Rattle.sheet.specs.Sections.{sections}
 use Rattle.sheet.specs.Reading.{verdict}
 use Rattle.sheet.specs.Parts.{sectionUnchecked}
 use Rattle.sheet.proofs.Spanning.{span-refused, span-empty, span-some, some-known}

@@ -1,11 +1,12 @@
 -- `sheet::section_unchecked` meets its contract. Assumes nothing.
 use borrow.Author.Needs.{needs}
 use native.Mathlib.Omega.{arith}
-use Prim.Native.Nat.{_-_, _*_}
-use mathlib.Core.Path.{_≡_, sym}
+use Prim.Native.Nat.{ℕ, _+_, _-_, _*_}
+use mathlib.Core.Path.{_≡_, _∙_, sym, ap, ap₂}
+use lib.ListN.{getD, take, drop}
 use denote.Ref.{now}
-use Rattle.sheet.specs.Sections.{recordSize, sectionSize}
-use Rattle.sheet.specs.Parts.{offsetOf, countOf}
+use Rattle.records.specs.Sections.{recordSize, sectionSize}
+use Rattle.sheet.specs.Parts.{countOf}
 use Rattle.sheet.proofs.Reading.{unchecked-known, unchecked-unknown}
 use Rattle.sheet.proofs.parts.section_unchecked.Statement.{statement}
 use Rattle.sheet.proofs.parts.section_unchecked.Tie as tie
@@ -42,10 +43,12 @@ unfolding countOf
 returns-2 c =
     let a = c .before .before .before .before .before .before .before .args in
     let s = now (a .sheet) in
-    let o : c .before .before .before .before .section-offset .result ≡ offsetOf s (a .number) = c .before .before .before .before .section-offset .ensures .0 in
-    let n : c .before .before .section-size .result ≡ sectionSize (a .number) (countOf s (a .number)) = cc in
-    let m : c .before .before .section-size .result - 1 ≡ countOf s (a .number) * recordSize (a .number) = omega arith in
-    cc (unchecked-known s (a .number) (omega arith))
+    let o = c .before .before .before .before .section-offset .ensures .0 in
+    let count = c .before .before .before .byte-at .ensures ∙ ap (λ (i : ℕ). getD s i 0) o in
+    let size = c .before .before .section-size .ensures ∙ ap (sectionSize (a .number)) count in
+    let m : c .before .before .section-size .result - 1 ≡ countOf s (a .number) * recordSize (a .number) = omega (arith, size) in
+    let rest = c .before .suffix .ensures ∙ ap (λ (i : ℕ). drop (i + 1) s) o in
+    c .prefix .ensures ∙ ap₂ take m rest ∙ sym (unchecked-known s (a .number) (omega arith))
 
 pub section-unchecked-spec : {M : Type 1} → statement M
 section-unchecked-spec =

@@ -62,7 +62,8 @@ add-result-3 c = search needs
 
 returns : tie.Need-returns
 unfolding inputsOf
-returns c = (search needs, omega arith)
+returns c =
+    (rw (c .before .before .before .pair-at .ensures .0, c .before .before .pair-at2 .ensures .0, c .before .pair-at3 .ensures .0, c .pair-at4 .ensures .0), omega arith)
 
 pub mid-inputs-spec : {M : Type 1} → statement M
 mid-inputs-spec =

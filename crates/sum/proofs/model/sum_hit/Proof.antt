@@ -49,7 +49,9 @@ answer-at-requires-3 c κs = search needs
 
 returns : tie.Need-returns
 unfolding sumHit
-returns c = cc
+returns c =
+    let mids = c .before .before in
+    rw (c .answer-at3 .ensures, mids .answer-at .ensures, c .before .answer-at2 .ensures, mids .before .before .mid-inputs .ensures .0, mids .before .mid-inputs2 .ensures .0)
 
 pub sum-hit-spec : {M : Type 1} → statement M
 sum-hit-spec =

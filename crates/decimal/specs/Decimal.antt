@@ -1,0 +1,21 @@
+-- A section's number on the command line.
+use Prim.Native.Nat.{ℕ, _+_, _-_, _*_, min}
+use mathlib.Core.Bool.{Bool, _&&_}
+use mathlib.Core.List.{List, [], _∷_}
+use lib.Dec.{ltb}
+use lib.ListN.{length}
+use Rattle.buffer.specs.Bytes.{allWithin}
+use Rattle.records.specs.Sections.{sections}
+
+-- a word of the digits 0 to 9, at least one
+abbrev pub isDecimal : List ℕ → Bool
+isDecimal word = ltb 0 (length word) && allWithin 48 57 word
+
+-- the number that decimal digits give behind n: '0' is 48
+unfoldable pub decimalFrom : (n : ℕ) (word : List ℕ) → ℕ
+decimalFrom n [] = n
+decimalFrom n (d ∷ ds) = decimalFrom (10 * n + (d - 48)) ds
+
+-- 01, 'The set-up sheet': 'a section number above 3, gives an empty part', so all of them may count as the first that no section has
+unfoldable pub sectionAsked : List ℕ → ℕ
+sectionAsked word = min (decimalFrom 0 word) sections
