@@ -8,8 +8,8 @@ use Rattle.lut.specs.Table.{tableOf}
 use Rattle.term.specs.Words.{nibbleTable, chainWord, wordsDown, termWords}
 use Rattle.range.specs.Rule.{rangeHit, rangeFault}
 use Rattle.range.specs.Words as range
-use Rattle.range.specs.Reduce.{reduceFrom, reduceOf}
-use Rattle.range.specs.Tell.{turnValue, turnSample, tellLine, firstDiffer, tellMasks, tellBounds, tellReduced, tellingOf}
+use Rattle.range_telling.specs.Reduce.{reduceFrom, reduceOf}
+use Rattle.range_telling.specs.Tell.{turnValue, turnSample, tellLine, firstDiffer, tellMasks, tellBounds, tellReduced, tellingOf}
 use Rattle.edge.specs.Chain.{pairTable, wordsFrom}
 use Rattle.demands.specs.Bench.{holds, allHold, bench}
 

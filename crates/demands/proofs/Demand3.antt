@@ -17,7 +17,7 @@ use Rattle.sheet.specs.Reading.{verdict}
 use Rattle.sheet.specs.Parsed.{AcceptedDescription}
 use Rattle.term.specs.Rule.{termHit}
 use Rattle.range.specs.Rule.{hitOf}
-use Rattle.range.specs.Matter.{DroppedWords}
+use Rattle.range_telling.specs.Matter.{DroppedWords}
 use Rattle.edge.specs.Telling.{hits}
 use Rattle.compiler.specs.Chains.{chainWordsOf}
 use Rattle.notice.specs.declared.Line.{Line}

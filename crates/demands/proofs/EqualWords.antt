@@ -13,9 +13,10 @@ use Rattle.term.specs.Words.{termWords}
 use Rattle.term.proofs.Theorems as term
 use Rattle.range.specs.Rule.{hitOf}
 use Rattle.range.specs.Words.{rangeWords, sentWords, lowerChain, upperChain, wordsOf}
-use Rattle.range.specs.Reduce.{reduceOf}
-use Rattle.range.specs.Matter.{DroppedWords}
+use Rattle.range_telling.specs.Reduce.{reduceOf}
+use Rattle.range_telling.specs.Matter.{DroppedWords}
 use Rattle.range.proofs.Theorems as range
+use Rattle.range_telling.proofs.Theorems as range-telling
 use Rattle.edge.specs.Chain.{edgeWords}
 use Rattle.edge.specs.Telling.{hits}
 use Rattle.edge.proofs.Theorems as edge
@@ -68,11 +69,11 @@ ranges-alike d e a b q =
 -- every accepted range has words with the lines that cannot matter dropped: those of the range that is left
 pub dropped-words-are : (d ws : List ℕ) → AcceptedDescription 1 d → DroppedWords (rangeOf d) ws ↔ (ws ≡ wordsOf (reduceOf (rangeOf d)))
 dropped-words-are d ws a =
-    range.range-dropped-exactly (rangeOf d) (range-accepted d (description-bytes 1 d a) (description-sound 1 d a .1)) ws
+    range-telling.range-dropped-exactly (rangeOf d) (range-accepted d (description-bytes 1 d a) (description-sound 1 d a .1)) ws
 
 -- ranges with those lines dropped
 pub dropped-alike : (d e ws vs : List ℕ) → AcceptedDescription 1 d → AcceptedDescription 1 e
     → DroppedWords (rangeOf d) ws → DroppedWords (rangeOf e) vs → (ws ≡ vs) ↔ HitAlike (hitOf (rangeOf d)) (hitOf (rangeOf e))
 dropped-alike d e ws vs a b =
-    range.ranges-dropped-alike (rangeOf d) (rangeOf e) (range-accepted d (description-bytes 1 d a) (description-sound 1 d a .1))
+    range-telling.ranges-dropped-alike (rangeOf d) (rangeOf e) (range-accepted d (description-bytes 1 d a) (description-sound 1 d a .1))
     (range-accepted e (description-bytes 1 e b) (description-sound 1 e b .1)) ws vs

@@ -14,8 +14,8 @@ use Rattle.records.specs.Records.{recordsFrom, find}
 use Rattle.sheet.specs.Parsed.{joined, render, sectionsFrom, parse}
 use Rattle.term.specs.Telling.{leastTelling}
 use Rattle.range.specs.Rule.{rangeHit}
-use Rattle.range.specs.Reduce.{reduceFrom, reduceOf}
-use Rattle.range.specs.Tell.{turnValue, turnSample, tellLine, firstDiffer, tellMasks, tellBounds, tellReduced, tellingOf}
+use Rattle.range_telling.specs.Reduce.{reduceFrom, reduceOf}
+use Rattle.range_telling.specs.Tell.{turnValue, turnSample, tellLine, firstDiffer, tellMasks, tellBounds, tellReduced, tellingOf}
 use Rattle.notice.specs.Text as text
 use Rattle.notice.specs.Findings.{termFinding, rangeFinding, findingOf, sharedLines, slotLines}
 use Rattle.notice.specs.Notice.{linesFrom, sectionsLines, noticeLines, noticeText}

@@ -17,8 +17,8 @@ use Rattle.sheet.proofs.Examples.{full}
 use Rattle.sheet.proofs.Theorems as sheet
 use Rattle.term.specs.Telling.{leastTelling}
 use Rattle.range.specs.Rule.{rangeFault, rangeHit}
-use Rattle.range.specs.Reduce.{reduceFrom, reduceOf}
-use Rattle.range.specs.Tell.{turnValue, turnSample, tellLine, firstDiffer, tellMasks, tellBounds, tellReduced, tellingOf}
+use Rattle.range_telling.specs.Reduce.{reduceFrom, reduceOf}
+use Rattle.range_telling.specs.Tell.{turnValue, turnSample, tellLine, firstDiffer, tellMasks, tellBounds, tellReduced, tellingOf}
 use Rattle.edge.specs.Telling.{without, tellBy}
 use Rattle.sum.specs.Operation.{codesAccepted}
 use Rattle.notice.specs.Text as text

@@ -15,9 +15,9 @@ use Rattle.term.specs.Rule.{termHit}
 use Rattle.term.specs.Telling.{leastTelling}
 use Rattle.term.proofs.Theorems as term
 use Rattle.range.specs.Rule.{hitOf, RangeAccepted}
-use Rattle.range.specs.Tell.{tellingOf}
+use Rattle.range_telling.specs.Tell.{tellingOf}
 use Rattle.range.proofs.Faults.{fault-0}
-use Rattle.range.proofs.Theorems as range
+use Rattle.range_telling.proofs.Theorems as range-telling
 use Rattle.edge.specs.Rule.{edgeAccepted, Accepted}
 use Rattle.edge.specs.Telling.{hits, tellingEdge}
 use Rattle.edge.proofs.Theorems as edge
@@ -114,7 +114,7 @@ decides zero d e h bd be fd fe = sample-decides f g (tellingAt 0 d e) (least-one
     g : ℕ → Bool
     g = termHit (fieldOf e 0) (fieldOf e 1)
 decides (suc zero) d e h bd be fd fe =
-    sample-decides (hitOf (rangeOf d)) (hitOf (rangeOf e)) (tellingAt 1 d e) (range.range-telling (rangeOf d) (rangeOf e) (range-accepted d bd fd) (range-accepted e be fe))
+    sample-decides (hitOf (rangeOf d)) (hitOf (rangeOf e)) (tellingAt 1 d e) (range-telling.range-telling (rangeOf d) (rangeOf e) (range-accepted d bd fd) (range-accepted e be fe))
 decides (suc (suc zero)) d e h bd be fd fe =
     samples-decide (hits (edgeOf d)) (hits (edgeOf e)) (tellingAt 2 d e) (edge.telling-tells (edgeOf d) (edgeOf e) (edge-accepted d bd fd) (edge-accepted e be fe))
 decides (suc (suc (suc k))) d e h bd be fd fe = absurd (omega arith)

@@ -11,7 +11,7 @@ use Rattle.lut.specs.declared.Telling.the-variants.{Alike, One, Two}
 use Rattle.term.specs.Words.{termWords}
 use Rattle.range.specs.Rule.{rangeHit, rangeFault}
 use Rattle.range.specs.Words.{sentWords}
-use Rattle.range.specs.Tell.{tellingOf}
+use Rattle.range_telling.specs.Tell.{tellingOf}
 use Rattle.edge.specs.Chain.{edgeWords}
 
 -- what an example says

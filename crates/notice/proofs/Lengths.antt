@@ -12,8 +12,8 @@ use Rattle.lut.specs.declared.Telling.{Telling}
 use Rattle.lut.specs.declared.Telling.the-variants.{Alike, One, Two}
 use Rattle.records.specs.Sections.{fieldOf, labelOf, descriptionOf}
 use Rattle.term.specs.Telling.{leastTelling, lowestLine}
-use Rattle.range.specs.Tell.{firstDiffer, tellMasks, tellBounds, tellReduced, tellingOf}
-use Rattle.range.specs.Reduce.{reduceOf}
+use Rattle.range_telling.specs.Tell.{firstDiffer, tellMasks, tellBounds, tellReduced, tellingOf}
+use Rattle.range_telling.specs.Reduce.{reduceOf}
 use Rattle.range.specs.declared.Range.{Range}
 use Rattle.edge.specs.Telling.{tellingEdge}
 use Rattle.notice.specs.declared.Finding.{Finding}

@@ -8,7 +8,7 @@ use Rattle.lut.specs.declared.Telling.{Telling}
 use Rattle.lut.specs.declared.Telling.the-variants.{Alike, One, Two}
 use Rattle.records.specs.Sections.{fieldOf, labelOf, descriptionOf}
 use Rattle.term.specs.Telling.{leastTelling}
-use Rattle.range.specs.Tell.{tellingOf}
+use Rattle.range_telling.specs.Tell.{tellingOf}
 use Rattle.range.specs.declared.Range.{Range}
 use Rattle.edge.specs.Telling.{tellingEdge}
 use Rattle.edge.specs.declared.Edge.{Edge}

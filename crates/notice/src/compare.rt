@@ -38,7 +38,7 @@ fn range_of(bytes: &[u8]) -> Range
 fn range_finding(old: &[u8], new: &[u8]) -> Finding
     ensures { λ r. ⌜ r ≡ rangeFinding (now (old .entry)) (now (new .entry)) ⌝ }
 {
-    told_finding(range::telling(range_of(old), range_of(new)))
+    told_finding(range_telling::telling(range_of(old), range_of(new)))
 }
 
 fn edge_of(bytes: &[u8]) -> Edge

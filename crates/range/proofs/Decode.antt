@@ -28,7 +28,10 @@ use Rattle.range.specs.Model.{tableAt}
 use Rattle.range.specs.Back.{linesWith, chainMask, chainBound, decoded, readAs, readRange, ReadSays}
 use Rattle.range.proofs.Tables.{table-at, take-sent, drop-sent, length-sent}
 use Rattle.range.proofs.Carry.{lower-fits, upper-fits, lower-value, upper-value}
-use Rattle.range.proofs.Halving.{range-path}
+
+-- two ranges are equal by their numbers
+pub range-path : (a b : Range) → a .lower ≡ b .lower → a .upper ≡ b .upper → a .mask ≡ b .mask → a ≡ b
+range-path a b p q r = λ i. record { lower = p i; upper = q i; mask = r i }
 
 pub one-if-lt : (b : Bool) → oneIf b < 2
 one-if-lt true = omega arith

@@ -2,11 +2,5 @@ pub mod Tables
 pub mod Adder
 pub mod Carry
 pub mod Faults
-pub mod Halving
-pub mod Turn
-pub mod Apart
-pub mod Dropped
-pub mod Divides
 pub mod Decode
 pub mod Theorems
-pub mod Examples

@@ -1,6 +1,6 @@
 // The calls for C and Rust, under their plain names; include/voltamar.h declares them and says each contract in words.
 // Promises: each answer, and all that is written through a pointer, equals a definition, for any input.
-// Rests on: sheet, compiler, reader, notice (sheets and streams), lines, term, range, edge, sum (rules and model), buffer and lut (answers).
+// Rests on: sheet, compiler, reader, notice (sheets and streams), lines, term, range, edge, sum (rules and model), answers (handed over in numbers).
 ghost use mathlib.Core.Path.{_≡_};
 ghost use lib.ListN.{length};
 ghost use Rattle.buffer.specs.Verdict.{verdictNumber, verdictPlace, outcomeNumber, outcomePlace};
@@ -12,11 +12,10 @@ ghost use Rattle.reader.specs.Back.{readBack};
 ghost use Rattle.reader.specs.Meaning.{ReadSays};
 ghost use Rattle.notice.specs.Notice.{noticeText, leftBy, noticedNumber, noticedWhich, noticedPlace};
 ghost use Rattle.voltamar_c.specs.Noticing.{noticed};
-use hand::hand_noticed;
-use hand::hand_outcome;
-use hand::hand_verdict;
+use answers::hand_noticed;
+use answers::hand_outcome;
+use answers::hand_verdict;
 
-mod hand;
 mod model;
 
 // The verdict on a sheet.

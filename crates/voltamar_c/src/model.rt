@@ -9,7 +9,7 @@ ghost use Rattle.range.specs.Model.{runRange};
 ghost use Rattle.edge.specs.Rule.{edgeHit};
 ghost use Rattle.edge.specs.Model.{runEdge};
 ghost use Rattle.sum.specs.Model.{runSum};
-use crate::hand::hand_answer;
+use answers::hand_answer;
 
 // The sample's masked lines, packed into a number.
 #[no_mangle]

@@ -15,7 +15,7 @@ use Rattle.range.specs.declared.ReadRange.{ReadRange}
 use Rattle.range.specs.declared.ReadRange.the-variants as ReadRange
 use Rattle.range.specs.Words.{complement, wordsOf}
 use Rattle.range.specs.Back.{chainBound, decoded, readAs, readRange, ReadSays}
-use Rattle.range.proofs.Halving.{range-path}
+use Rattle.range.proofs.Decode.{range-path}
 use Rattle.range.proofs.Decode.{read-says}
 use Rattle.range.proofs.back.read_range.Statement.{statement}
 use Rattle.range.proofs.back.read_range.Tie as tie

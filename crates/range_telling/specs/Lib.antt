@@ -1,0 +1,3 @@
+pub mod Matter
+pub mod Reduce
+pub mod Tell
