@@ -9,8 +9,6 @@ use Rattle.lut.specs.Telling.{HitAlike, TellsApart, SaysOne}
 use Rattle.lut.specs.declared.Telling.{Telling}
 use Rattle.lut.specs.declared.Telling.the-variants.{Alike, One, Two}
 use Rattle.range.specs.declared.Range.{Range}
-use Rattle.range.specs.declared.ReadRange.{ReadRange}
-use Rattle.range.specs.declared.ReadRange.the-variants as ReadRange
 use Rattle.range.specs.Rule.{hitOf, Accepted}
 use Rattle.range.specs.Words.{wordsOf}
 use Rattle.range_telling.specs.Matter.{CannotMatter, DroppedWords}
