@@ -1,15 +1,10 @@
-/* The static library of crates/voltamar_c: link libvoltamar_c.a, which `rt staticlib voltamar_c` writes to target/staticlib.
+/* The static library of crates/voltamar_c. `./voltamar install PREFIX` puts it in place with this header and a pkg-config file; without
+ * that, link libvoltamar_c.a, which `rt staticlib voltamar_c` writes to target/staticlib, and meaning.c, which stands beside this file.
  *
  * What each call promises is proved, for every input: there is no input that it may not be given.
  *
- * ANSWERS. A call that returns uint8_t returns 0 for done, or the number of the refusal:
- *
- *     1 count or record incomplete        7 lower bound above upper                  13 stream ends inside a command or item
- *     2 count above the section's most    8 upper bound too big for the mask         14 opcode other than the one due
- *     3 slot too big                      9 neither with rise or fall on a line      15 address unknown, not rising, or not the one due
- *     4 slot not rising                  10 operation above 9                        16 words that no accepted description writes
- *     5 bad label byte                   11 bytes left over                          17 wrong word count
- *     6 lower bound is 0                 12 output too short
+ * ANSWERS. A call that returns uint8_t returns 0 for done (VOLTAMAR_DONE), or the number of the refusal (enum voltamar_refusal
+ * below; voltamar_meaning says it in words).
  *
  * Each call writes through each of its pointers, whatever it returns. *place is, for a refusal, the offset of the count, record,
  * byte, command or item that is refused; for 12 the bytes needed, for 17 the words needed. Where a call is done, what *place
@@ -19,7 +14,8 @@
  * done leaves the bytes beyond the length it gives as they were. The three lengths below are room enough for any input.
  *
  * WHAT THE CALLER OWES, since nothing here can test it: a pointer is good for as many bytes or words as the length beside it says
- * (with a length of 0 it may be NULL), and the others are good for the one value they point to; what is written through
+ * (with a length of 0 it may be NULL), and the others are good for the one value they point to; each is aligned as C asks for its
+ * type, which for bytes is any address, and for uint32_t and size_t one that their size divides; what is written through
  * (out, place, which, start, length, hit) overlaps nothing else that is handed over; and no other thread writes what is handed
  * over, or reads what is written, during the call. The calls keep no state and allocate nothing; of the C library they
  * need memcpy and memset. */
@@ -34,9 +30,37 @@
 extern "C" {
 #endif
 
+#define VOLTAMAR_VERSION "0.1.0"
+
 #define VOLTAMAR_LONGEST_SHEET 1218
 #define VOLTAMAR_LONGEST_STREAM 2360
 #define VOLTAMAR_LONGEST_NOTICE 1756
+
+/* What a call returns. */
+enum voltamar_refusal {
+    VOLTAMAR_DONE = 0,
+    VOLTAMAR_INCOMPLETE = 1,        /* count or record incomplete */
+    VOLTAMAR_COUNT_TOO_BIG = 2,     /* count above the section's most */
+    VOLTAMAR_SLOT_TOO_BIG = 3,
+    VOLTAMAR_SLOT_NOT_RISING = 4,
+    VOLTAMAR_BAD_LABEL = 5,         /* a byte that no label may have */
+    VOLTAMAR_LOWER_ZERO = 6,        /* lower bound is 0 */
+    VOLTAMAR_LOWER_ABOVE_UPPER = 7,
+    VOLTAMAR_UPPER_TOO_BIG = 8,     /* for the mask's lines */
+    VOLTAMAR_NEITHER_CLASH = 9,     /* neither together with rise or fall on a line */
+    VOLTAMAR_BAD_OPERATION = 10,    /* operation above 9 */
+    VOLTAMAR_LEFT_OVER = 11,        /* bytes behind the last section */
+    VOLTAMAR_OUTPUT_TOO_SHORT = 12, /* *place is the bytes needed */
+    VOLTAMAR_UNFINISHED = 13,       /* the stream ends inside a command or item */
+    VOLTAMAR_BAD_OPCODE = 14,       /* other than the one due */
+    VOLTAMAR_BAD_ADDRESS = 15,      /* unknown, not rising, or not the one due */
+    VOLTAMAR_BAD_WORDS = 16,        /* words that no accepted description writes */
+    VOLTAMAR_WRONG_COUNT = 17       /* *place is the words needed */
+};
+
+/* What a number means, in a few words of English that last for ever; "done" for 0, and "not a refusal's number" for one that is none.
+ * This call alone is plain C (meaning.c) and not proved. */
+const char *voltamar_meaning(uint8_t number);
 
 /* ---- sheets and streams */
 
@@ -52,8 +76,8 @@ uint8_t voltamar_section(const uint8_t *sheet, size_t n, uint8_t number, size_t 
 uint8_t voltamar_compile(const uint8_t *sheet, size_t n, uint8_t *out, size_t room, size_t *place);
 
 /* Writes to out the sheet that the command stream sets up, with labels of eight spaces and targets cut to their masks. Done: 0, and
- * *place is its length. Refused: 13 to 16, the first fault from the left, or 12. A stream is accepted exactly if some accepted
- * sheet compiles to it. An empty stream gives the sheet of four zero bytes. */
+ * *place is its length. Refused: 13 to 16, the first fault from the left, or 12. Done exactly if some accepted sheet
+ * compiles to the stream; of no bytes the sheet is four zeros. */
 uint8_t voltamar_read(const uint8_t *stream, size_t n, uint8_t *out, size_t room, size_t *place);
 
 /* Writes the alteration notice of two sheets to out. Done: 0, *which is 0, and *place is the notice's length. Refused: the old

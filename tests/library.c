@@ -150,7 +150,18 @@ static void rules(void) {
     expect(!voltamar_edge_hit(0, 0, 0, 1, 0), "edge_hit: nothing asked");
 }
 
+static void meanings(void) {
+    expect(strcmp(voltamar_meaning(VOLTAMAR_DONE), "done") == 0, "meaning: done");
+    expect(strcmp(voltamar_meaning(VOLTAMAR_LOWER_ZERO), "lower bound is 0") == 0, "meaning: a refusal");
+    for (int number = 0; number < 256; number++) {
+        int is_none = strcmp(voltamar_meaning((uint8_t)number), "not a refusal's number") == 0;
+        expect(is_none == (number > VOLTAMAR_WRONG_COUNT), "meaning: every number");
+    }
+    expect(sizeof VOLTAMAR_VERSION > 1, "version");
+}
+
 int main(void) {
+    meanings();
     old_length = load("old.sheet", old_sheet);
     new_length = load("new.sheet", new_sheet);
     lift_length = load("lift.sheet", lift);

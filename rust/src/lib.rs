@@ -1,6 +1,18 @@
 //! Safe calls over the proved static library (crates/voltamar_c). No call asks anything of its caller: what the C
 //! header asks, the borrow checker sees to. A refused call leaves `out` as it was; a call that is done leaves the bytes
 //! beyond the length it answers.
+//!
+//! ```
+//! // a sheet with one term: slot 0, a label of eight bytes, target 5, mask F; no range, no edge, no sum
+//! let sheet = b"\x01\x00DOORLOCK\x05\x00\x00\x00\x0F\x00\x00\x00\x00\x00\x00";
+//! let mut out = [0; voltamar::LONGEST_STREAM];
+//! let length = voltamar::compile(sheet, &mut out)?;
+//! assert_eq!(length, 25);
+//! assert_eq!(out[..5], [0x9E, 0x20, 0, 0, 0]);
+//! # Ok::<(), voltamar::Refusal>(())
+//! ```
+use std::error::Error;
+use std::fmt;
 
 /// Room for the longest sheet, the most commands and the longest notice.
 pub const LONGEST_SHEET: usize = 1218;
@@ -14,6 +26,46 @@ pub struct Refusal {
     pub place: usize,
 }
 
+impl Refusal {
+    /// What the number means, in a few words.
+    pub fn meaning(&self) -> &'static str {
+        match self.number {
+            1 => "count or record incomplete",
+            2 => "count above the section's most",
+            3 => "slot too big",
+            4 => "slot not rising",
+            5 => "bad label byte",
+            6 => "lower bound is 0",
+            7 => "lower bound above upper",
+            8 => "upper bound too big for the mask's lines",
+            9 => "neither together with rise or fall on a line",
+            10 => "operation above 9",
+            11 => "bytes left over",
+            12 => "output too short (the place is the bytes needed)",
+            13 => "stream ends inside a command or item",
+            14 => "opcode other than the one due",
+            15 => "address unknown, not rising, or not the one due",
+            16 => "words that no accepted description writes",
+            17 => "wrong word count (the place is the count needed)",
+            _ => "not a refusal's number",
+        }
+    }
+}
+
+/// The line that the command line says of a refusal, without the record's part.
+///
+/// ```
+/// let refusal = voltamar::check(&[]).unwrap_err();
+/// assert_eq!(refusal.to_string(), "refused 1 at 0: count or record incomplete");
+/// ```
+impl fmt::Display for Refusal {
+    fn fmt(&self, f: &mut fmt::Formatter<'_>) -> fmt::Result {
+        write!(f, "refused {} at {}: {}", self.number, self.place, self.meaning())
+    }
+}
+
+impl Error for Refusal {}
+
 /// A refused notice: the sheet that the refusal is of, or the bytes needed (12 is of neither).
 #[derive(Clone, Copy, Debug, PartialEq, Eq)]
 pub enum NoticeRefusal {
@@ -22,8 +74,20 @@ pub enum NoticeRefusal {
     Short { needed: usize },
 }
 
+impl fmt::Display for NoticeRefusal {
+    fn fmt(&self, f: &mut fmt::Formatter<'_>) -> fmt::Result {
+        match self {
+            NoticeRefusal::Old(refusal) => write!(f, "old sheet: {refusal}"),
+            NoticeRefusal::New(refusal) => write!(f, "new sheet: {refusal}"),
+            NoticeRefusal::Short { needed } => Refusal { number: 12, place: *needed }.fmt(f),
+        }
+    }
+}
+
+impl Error for NoticeRefusal {}
+
 /// The library's calls as they are; include/voltamar.h says what each promises and asks.
-pub mod raw {
+mod raw {
     extern "C" {
         pub fn voltamar_check(sheet: *const u8, n: usize, place: *mut usize) -> u8;
         pub fn voltamar_section(sheet: *const u8, n: usize, number: u8, start: *mut usize, length: *mut usize) -> u8;
@@ -69,6 +133,12 @@ fn answer<T>(number: u8, place: usize, done: T) -> Result<T, Refusal> {
 }
 
 /// Judges a sheet.
+///
+/// ```
+/// assert_eq!(voltamar::check(&[0, 0, 0, 0]), Ok(()));
+/// assert_eq!(voltamar::check(&[11]), Err(voltamar::Refusal { number: 2, place: 0 }));
+/// ```
+#[inline]
 pub fn check(sheet: &[u8]) -> Result<(), Refusal> {
     let mut place = 0;
     let number = unsafe { raw::voltamar_check(sheet.as_ptr(), sheet.len(), &mut place) };
@@ -76,23 +146,39 @@ pub fn check(sheet: &[u8]) -> Result<(), Refusal> {
 }
 
 /// The part of the sheet that holds one section's records, without the count: 0 terms, 1 ranges, 2 edges, 3 sums. It is
-/// empty for a number above 3. A refused sheet gives the check's number.
-pub fn section(sheet: &[u8], number: u8) -> Result<&[u8], u8> {
+/// empty for a number above 3. A refused sheet gives what [`check`] gives.
+///
+/// ```
+/// let sheet = b"\x01\x00DOORLOCK\x05\x00\x00\x00\x0F\x00\x00\x00\x00\x00\x00";
+/// assert_eq!(voltamar::section(sheet, 0), Ok(&sheet[1..18]));
+/// assert_eq!(voltamar::section(sheet, 4), Ok(&[][..]));
+/// assert_eq!(voltamar::section(&sheet[..9], 3), Err(voltamar::Refusal { number: 1, place: 1 }));
+/// ```
+#[inline]
+pub fn section(sheet: &[u8], number: u8) -> Result<&[u8], Refusal> {
     let (mut start, mut length) = (0, 0);
     match unsafe { raw::voltamar_section(sheet.as_ptr(), sheet.len(), number, &mut start, &mut length) } {
         0 => Ok(&sheet[start..][..length]),
-        refused => Err(refused),
+        _ => check(sheet).map(|()| &sheet[..0]),
     }
 }
 
-/// Writes a sheet's commands to the start of `out` and answers their length.
+/// Writes a sheet's commands to the start of `out` and answers their length. The crate's first example shows a call.
+#[inline]
 pub fn compile(sheet: &[u8], out: &mut [u8]) -> Result<usize, Refusal> {
     let mut place = 0;
     let number = unsafe { raw::voltamar_compile(sheet.as_ptr(), sheet.len(), out.as_mut_ptr(), out.len(), &mut place) };
     answer(number, place, place)
 }
 
-/// Writes the sheet that a command stream is of to the start of `out` and answers its length.
+/// Writes the sheet that a command stream sets up to the start of `out` and answers its length.
+///
+/// ```
+/// let mut out = [0; voltamar::LONGEST_SHEET];
+/// assert_eq!(voltamar::read(&[], &mut out), Ok(4)); // an empty stream gives four zero bytes
+/// assert_eq!(voltamar::read(&[0x9F, 0, 0, 0, 0], &mut out), Err(voltamar::Refusal { number: 14, place: 0 }));
+/// ```
+#[inline]
 pub fn read(stream: &[u8], out: &mut [u8]) -> Result<usize, Refusal> {
     let mut place = 0;
     let number = unsafe { raw::voltamar_read(stream.as_ptr(), stream.len(), out.as_mut_ptr(), out.len(), &mut place) };
@@ -100,6 +186,16 @@ pub fn read(stream: &[u8], out: &mut [u8]) -> Result<usize, Refusal> {
 }
 
 /// Writes the alteration notice of two sheets to the start of `out` and answers its length.
+///
+/// ```
+/// let old = b"\x01\x00DOORLOCK\x05\x00\x00\x00\x0F\x00\x00\x00\x00\x00\x00";
+/// let new = b"\x01\x00DOORLK  \x07\x00\x00\x00\x0F\x00\x00\x00\x00\x00\x00";
+/// let mut out = [0; voltamar::LONGEST_NOTICE];
+/// let length = voltamar::notice(old, new, &mut out)?;
+/// assert_eq!(&out[..length], b"TERM 00 NAME\nTERM 00 ALTR 00000005\n");
+/// # Ok::<(), voltamar::NoticeRefusal>(())
+/// ```
+#[inline]
 pub fn notice(old: &[u8], new: &[u8], out: &mut [u8]) -> Result<usize, NoticeRefusal> {
     let (mut which, mut place) = (0, 0);
     let number = unsafe {
@@ -123,11 +219,22 @@ pub fn notice(old: &[u8], new: &[u8], out: &mut [u8]) -> Result<usize, NoticeRef
 }
 
 /// The sample's masked lines, the lowest line at bit 0.
+///
+/// ```
+/// assert_eq!(voltamar::gather(0x0880, 0x8A80), 5);
+/// ```
+#[inline]
 pub fn gather(sample: u32, mask: u32) -> u32 {
     unsafe { raw::voltamar_gather(sample, mask) }
 }
 
 /// Runs a term's four chain words on a sample.
+///
+/// ```
+/// assert_eq!(voltamar::run_term(&[!0, !0, !0, 0xFFFF_0020], 5), Ok(true));
+/// assert_eq!(voltamar::run_term(&[!0; 3], 5), Err(voltamar::Refusal { number: 17, place: 4 }));
+/// ```
+#[inline]
 pub fn run_term(words: &[u32], sample: u32) -> Result<bool, Refusal> {
     let (mut hit, mut place) = (0, 0);
     let number = unsafe { raw::voltamar_run_term(words.as_ptr(), words.len(), sample, &mut hit, &mut place) };
@@ -135,6 +242,7 @@ pub fn run_term(words: &[u32], sample: u32) -> Result<bool, Refusal> {
 }
 
 /// Runs a range's thirty-two chain words, the lower chain first, on a sample.
+#[inline]
 pub fn run_range(words: &[u32], sample: u32) -> Result<bool, Refusal> {
     let (mut hit, mut place) = (0, 0);
     let number = unsafe { raw::voltamar_run_range(words.as_ptr(), words.len(), sample, &mut hit, &mut place) };
@@ -142,6 +250,7 @@ pub fn run_range(words: &[u32], sample: u32) -> Result<bool, Refusal> {
 }
 
 /// Runs an edge's eight chain words on an earlier and a later sample.
+#[inline]
 pub fn run_edge(words: &[u32], earlier: u32, later: u32) -> Result<bool, Refusal> {
     let (mut hit, mut place) = (0, 0);
     let number = unsafe { raw::voltamar_run_edge(words.as_ptr(), words.len(), earlier, later, &mut hit, &mut place) };
@@ -149,6 +258,7 @@ pub fn run_edge(words: &[u32], earlier: u32, later: u32) -> Result<bool, Refusal
 }
 
 /// Runs a sum's six chain words on the sixteen sources.
+#[inline]
 pub fn run_sum(words: &[u32], sources: u16) -> Result<bool, Refusal> {
     let (mut hit, mut place) = (0, 0);
     let number = unsafe { raw::voltamar_run_sum(words.as_ptr(), words.len(), sources, &mut hit, &mut place) };
@@ -156,16 +266,24 @@ pub fn run_sum(words: &[u32], sources: u16) -> Result<bool, Refusal> {
 }
 
 /// The plain rule of a term.
+#[inline]
 pub fn term_hit(target: u32, mask: u32, sample: u32) -> bool {
     unsafe { raw::voltamar_term_hit(target, mask, sample) }
 }
 
 /// The plain rule of a range.
+///
+/// ```
+/// assert!(voltamar::range_hit(3, 9, 0xF, 9));
+/// assert!(!voltamar::range_hit(3, 9, 0xF, 10));
+/// ```
+#[inline]
 pub fn range_hit(lower: u32, upper: u32, mask: u32, sample: u32) -> bool {
     unsafe { raw::voltamar_range_hit(lower, upper, mask, sample) }
 }
 
 /// The plain rule of an edge.
+#[inline]
 pub fn edge_hit(rise: u32, fall: u32, neither: u32, earlier: u32, later: u32) -> bool {
     unsafe { raw::voltamar_edge_hit(rise, fall, neither, earlier, later) }
 }

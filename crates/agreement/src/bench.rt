@@ -1,8 +1,6 @@
-// The bench examples that are run: each line says what is handed in and what comes of it.
+// The examples that are run: each line says what is handed in and what comes of it [E9, E10].
 use buffer::Outcome;
 use buffer::Verdict;
-
-const LONGEST_SHEET: usize = 1218;
 
 fn say_refused(out: i32, number: u8, place: usize) {
     io::print_decimal(out, number as u64);
@@ -24,7 +22,7 @@ fn say_sheet(out: i32, what: &[u8], sheet: &[u8]) {
 
 // The reader's answer, and the sheet's length where there is one.
 fn say_stream(out: i32, what: &[u8], stream: &[u8]) {
-    let mut room = [0u8; LONGEST_SHEET];
+    let mut room = [0u8; sheet::LONGEST];
     io::write_all(out, what);
     io::write_all(out, b": ");
     match reader::read(stream, &mut room) {

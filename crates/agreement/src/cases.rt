@@ -1,4 +1,5 @@
-// One case of the file: a sheet after its length, and the listings' stream after its length. Lengths have two bytes, the least first.
+// One case of the file: a sheet after its length, and the second program's stream after its length. Lengths have two
+// bytes, the least first.
 ghost use Prim.Native.Nat.{_<_};
 use buffer::Outcome;
 
@@ -57,7 +58,7 @@ fn begins(buf: &[u8], n: usize, with: &[u8]) -> bool {
 
 // Whether the compiler writes this stream for this sheet.
 fn agrees(sheet: &[u8], stream: &[u8]) -> bool {
-    let mut out = [0u8; compiler::MOST_BYTES];
+    let mut out = [0u8; compiler::LONGEST];
     match compiler::compile(sheet, &mut out) {
         Outcome::Done(length) => begins(&out, length, stream),
         Outcome::Refused(_, _) => false,

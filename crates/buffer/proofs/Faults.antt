@@ -4,7 +4,7 @@ use mathlib.Core.Path.{_≡_, refl}
 use mathlib.Core.Bool.{Bool, true, false, cond}
 use mathlib.Core.List.{List}
 use native.Mathlib.Omega.{arith}
-use Rattle.buffer.specs.Verdict.{andThen, refuseIf, refuseFault, isAccepted}
+use Rattle.buffer.specs.Verdict.{andThen, refuseIf, refuseFault, faultUnless, isAccepted}
 use Rattle.buffer.specs.Room.{bytes, unless}
 use Rattle.buffer.specs.declared.Verdict.{Verdict}
 use Rattle.buffer.specs.declared.Verdict.the-variants.{Accepted, Refused}
@@ -26,21 +26,9 @@ pub refuseFault-accepted : (number place : ℕ) → refuseFault number place ≡
 refuseFault-accepted zero place e = refl
 refuseFault-accepted (suc n) place e = absurd (no-refusal (suc n) place e)
 
--- a test that must not hold, and one that must
-pub cond-refused : (b : Bool) (number place : ℕ) (v : Verdict) → cond b (Refused number place) v ≡ Accepted → (b ≡ false) × (v ≡ Accepted)
-cond-refused true number place v e = absurd (no-refusal number place e)
-cond-refused false number place v e = (refl, e)
-
-pub cond-passed : (b : Bool) (number place : ℕ) (v : Verdict) → cond b v (Refused number place) ≡ Accepted → (b ≡ true) × (v ≡ Accepted)
-cond-passed true number place v e = (refl, e)
-cond-passed false number place v e = absurd (no-refusal number place e)
-
-pub isAccepted-true : (v : Verdict) → isAccepted v ≡ true → v ≡ Accepted
-isAccepted-true Accepted e = refl
-isAccepted-true (Refused number place) e = let z : _≡_ {A = ℕ} 0 1 = cc in absurd (omega arith)
-
-pub isAccepted-false : (v : Verdict) → isAccepted v ≡ false → v ≡ Accepted → ⊥
-isAccepted-false v e f = let z : _≡_ {A = ℕ} 0 1 = cc in omega arith
+pub unless-none : (b : Bool) (n : ℕ) → (n ≡ 0 → ⊥) → faultUnless b n ≡ 0 → b ≡ true
+unless-none true n nz e = refl
+unless-none false n nz e = absurd (nz e)
 
 -- an answer of bytes is that of an accepted input
 pub unless-bytes : (v : Verdict) (bs s : List ℕ) → unless v bs ≡ bytes s → (v ≡ Accepted) × (bs ≡ s)

@@ -65,9 +65,6 @@ u32-take n s at h =
       getD-take n s (at + 3) 0 (omega arith),
     )
 
-pub u32-append : (s t : List ℕ) (at : ℕ) → at + 4 ≤ length s → u32At (s ++ t) at ≡ u32At s at
-u32-append s t at h = sym (u32-take (length s) (s ++ t) at h) ∙ ap (λ (r : List ℕ). u32At r at) (take-append-seam s t)
-
 pub u32-behind : (s t : List ℕ) (at : ℕ) → u32At (s ++ t) (length s + at) ≡ u32At t at
 u32-behind s t at =
     u32-drop (s ++ t) (length s + at) ∙ ap (λ (r : List ℕ). u32At r 0) (drop-append-add s t at) ∙ sym (u32-drop t at)

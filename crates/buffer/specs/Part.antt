@@ -4,7 +4,7 @@ use mathlib.Core.List.{List}
 use mathlib.Core.Path.{_≡_}
 use denote.Ref.{RefT, ptr, now}
 
--- 01, 'The set-up sheet': a part of the caller's own bytes. It lies in the same memory, so many bytes from the other's start, and holds these bytes
+-- a part of a lent slice: in the same memory, so many bytes from the slice's start, with these bytes [S9, G14, L6]
 pub record Part (whole part : RefT (List ℕ)) (start : ℕ) (bytes : List ℕ) : Type 0 where
   pub holds : now part ≡ bytes
   pub same-block : ptr part .0 ≡ ptr whole .0

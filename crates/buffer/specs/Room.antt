@@ -10,45 +10,45 @@ use Rattle.buffer.specs.declared.Verdict.the-variants as Verdict
 use Rattle.buffer.specs.declared.Outcome.{Outcome}
 use Rattle.buffer.specs.declared.Outcome.the-variants as Outcome
 
--- 01, 'Refusal numbers': what a call has to say: the bytes to be written, or a refusal by number and place
+-- what a call has to say: the bytes to be written, or a refusal by number and place [A1, A2]
 pub data Reply : Type 0 where
   bytes : List ℕ → Reply
   refusal : ℕ → ℕ → Reply
 
--- 01, 'Refusal numbers': these bytes where the input is accepted; a refusal writes nothing
+-- these bytes where the input is accepted; a refusal otherwise, whatever the bytes [A2, O7]
 abbrev pub unless : Verdict → List ℕ → Reply
 unless Verdict.Accepted bs = bytes bs
 unless (Verdict.Refused number place) bs = refusal number place
 
--- 01, 'Refusal numbers': bytes written at the room's start; those beyond stay
+-- bytes at the room's start; those beyond them stay [A1]
 abbrev pub fill : List ℕ → List ℕ → List ℕ
 fill bs room = bs ++ drop (length bs) room
 
--- 01, 'Chain words': bytes written into the room that begins at an index
+-- bytes in the room that begins at an index; all others stay [A1, W17, L4]
 abbrev pub write : ℕ → List ℕ → List ℕ → List ℕ
 write at bs room = take at room ++ fill bs (drop at room)
 
--- 01, 'Refusal numbers': success gives the length written; 12, output too short, the bytes needed
+-- the answer by the room's length: the length written, or 12 and the length needed, or the refusal [A1, A2, A3, F12]
 abbrev pub outcome : Reply → ℕ → Outcome
 outcome (bytes bs) size = cond (leb (length bs) size) (Outcome.Done (length bs)) (Outcome.Refused 12 (length bs))
 outcome (refusal number place) size = Outcome.Refused number place
 
--- 01, 'Refusal numbers': the room afterwards; a refusal, 12 too, writes nothing
+-- the room afterwards: filled where the bytes fit, as it was after every refusal, 12 too [A1, A2, A3]
 abbrev pub after : Reply → List ℕ → List ℕ
 after (bytes bs) room = cond (leb (length bs) (length room)) (fill bs room) room
 after (refusal number place) room = room
 
--- 01, 'Refusal numbers': a call that was lent room answered r and left room′
+-- a call that was lent room answered r and left room′ [A1, A2, A3, G14]
 pub record Delivered (reply : Reply) (room : List ℕ) (r : Outcome) (room′ : List ℕ) : Type 0 where
   pub answer : r ≡ outcome reply (length room)
   pub left : room′ ≡ after reply room
 
--- 01, 'The notice': text was written from an index on, and the answer is the index behind it, where the next begins
+-- text was put at an index, and the index behind it is answered [A10]
 pub record Wrote (at : ℕ) (text room room′ : List ℕ) (r : ℕ) : Type 0 where
   pub next : r ≡ at + length text
   pub left : room′ ≡ write at text room
 
--- 01, 'The notice': the same where the text fits; otherwise nothing was written, and the answer is the index itself
+-- the same where the text fits; otherwise nothing was put, and its own index is answered [A10]
 pub record Put (at : ℕ) (text room room′ : List ℕ) (r : ℕ) : Type 0 where
   pub next : r ≡ cond (leb (at + length text) (length room)) (at + length text) at
   pub left : room′ ≡ cond (leb (at + length text) (length room)) (write at text room) room

@@ -1,8 +1,10 @@
 // Readers of bytes that are total: what lies past the end counts as 0, or as nothing.
 ghost use mathlib.Core.Path.{_≡_};
+ghost use mathlib.Core.Bool.{_&&_};
+ghost use lib.Dec.{leb};
 ghost use Prim.Native.Nat.{_<_};
-ghost use lib.ListN.{getD, take, drop};
-ghost use Rattle.lines.specs.Same.{same};
+ghost use lib.ListN.{length, getD, take, drop};
+ghost use Rattle.buffer.specs.Same.{same};
 ghost use Rattle.buffer.specs.Bytes.{u32At, allWithin};
 
 // The byte at an offset, 0 past the end.
@@ -49,22 +51,55 @@ pub fn u32_at(bytes: &[u8], at: usize) -> u32
     b0 + b1 * 256 + b2 * 65536 + b3 * 16777216
 }
 
-// Whether each byte is from `low` to `high`.
-pub fn all_within(low: u8, high: u8, bytes: &[u8]) -> bool
+fn is_within(low: u8, high: u8, b: u8) -> bool
+    ensures { λ r. ⌜ r ≡ (leb low b && leb b high) ⌝ }
+{
+    if b < low {
+        return false;
+    }
+    b <= high
+}
+
+// Whether each of eight bytes is from `low` to `high`. All eight are looked at, so that the machine looks at them at once.
+fn eight_within(low: u8, high: u8, bytes: &[u8]) -> bool
+    requires { ⌜ length (now bytes) ≡ 8 ⌝ }
+    ensures { λ r. ⌜ r ≡ allWithin low high (now (bytes .entry)) ⌝ }
+{
+    let mut all = true;
+    let mut i: usize = 8;
+    while 0 < i {
+        i -= 1;
+        all = is_within(low, high, bytes[i]) & all;
+    }
+    all
+}
+
+// The same of any bytes, one after the other.
+fn each_within(low: u8, high: u8, bytes: &[u8]) -> bool
     ensures { λ r. ⌜ r ≡ allWithin low high (now (bytes .entry)) ⌝ }
 {
     let mut i = 0;
     while i < bytes.len() {
-        let b = bytes[i];
-        if b < low {
-            return false;
-        }
-        if high < b {
+        if !is_within(low, high, bytes[i]) {
             return false;
         }
         i += 1;
     }
     true
+}
+
+// Whether each byte is from `low` to `high`: the first eight at once.
+pub fn all_within(low: u8, high: u8, bytes: &[u8]) -> bool
+    ensures { λ r. ⌜ r ≡ allWithin low high (now (bytes .entry)) ⌝ }
+{
+    let mut from = 0;
+    if 8 <= bytes.len() {
+        if !eight_within(low, high, prefix(bytes, 8)) {
+            return false;
+        }
+        from = 8;
+    }
+    each_within(low, high, suffix(bytes, from))
 }
 
 // Whether two parts have the same bytes.

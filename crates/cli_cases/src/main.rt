@@ -1,6 +1,6 @@
 // The command line on a table of cases: the file args has one word to a line, and a line `--` after each case.
-// Promises: it is safe and ends. Complaints go to standard output too, so that the file stdout holds both.
-// Rests on: cli (what is run), reader and term (two refusals that no command line meets), io and os.
+// Promises: it is safe and ends. Complaints go to standard output too, so that the file stdout holds both, and each case's status.
+// Rests on: cli (what is run), faults, reader and term (two refusals that no command line meets), io and os.
 use buffer::Outcome;
 use lut::Answer;
 
@@ -28,9 +28,28 @@ fn ends_case(first: usize, i: usize) -> bool {
     if !buffer::same_bytes(&buf[..n], b"--") {
         return false;
     }
-    cli::run(first, i, 1, 1);
-    io::write_all(1, b"--\n");
+    let status = run_case(first, i);
+    io::write_all(1, b"-- ");
+    io::print_decimal(1, status as u64);
+    io::write_all(1, b"\n");
     true
+}
+
+fn run_case(first: usize, last: usize) -> u8 {
+    let mut old = [0u8; cli::SHEET_BUFFER];
+    let mut new = [0u8; cli::SHEET_BUFFER];
+    let mut old_length: usize = 0;
+    let mut new_length: usize = 0;
+    cli::run(
+        first,
+        last,
+        1,
+        1,
+        &mut old,
+        &mut new,
+        &mut old_length,
+        &mut new_length,
+    )
 }
 
 // 12: the program's own room is never too short.
@@ -40,7 +59,7 @@ fn short_room() {
     io::write_all(1, b"a room of 3 bytes: ");
     match reader::read(&stream[0..0], &mut room) {
         Outcome::Done(_) => {}
-        Outcome::Refused(number, place) => cli::refusal(number, place, 1),
+        Outcome::Refused(number, place) => write_refusal(number, place),
     }
 }
 
@@ -51,6 +70,13 @@ fn wrong_count() {
     match term::run_term(&words, 0) {
         Answer::Hit => {}
         Answer::Miss => {}
-        Answer::WrongCount(needed) => cli::refusal(17, needed, 1),
+        Answer::WrongCount(needed) => write_refusal(17, needed),
     }
+}
+
+fn write_refusal(number: u8, place: usize) {
+    let mut line = [0u8; 128];
+    let a = faults::put_refusal(&mut line, 0, number, place);
+    let b = buffer::put_at(&mut line, a, b"\n");
+    io::write_all(1, buffer::prefix(&line, b));
 }

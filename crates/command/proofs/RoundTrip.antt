@@ -36,9 +36,6 @@ words-read [] k rest e h = rw e
 words-read (w ∷ ws) k rest e h =
     rw e (ap₂ (λ (x : ℕ) (xs : List ℕ). x ∷ xs) (number-read loadOp w (loads ws ++ rest) (h 0)) (words-read ws (length ws) rest refl (words-tail w ws h)))
 
-pub loads-past : (ws : List ℕ) (k : ℕ) (rest : List ℕ) → k ≡ length ws → drop (5 * k) (loads ws ++ rest) ≡ rest
-loads-past ws k rest e = drop-at (loads ws) rest (5 * k) (length-loads ws ∙ ap (λ (n : ℕ). 5 * n) (sym e))
-
 -- a chain, with anything behind it: its select command, and its k words
 module _ (a : ℕ) (ws rest : List ℕ) where
   pub chain-selects : (at : ℕ) → commandVerdict selectOp at (chain a ws ++ rest) ≡ Accepted

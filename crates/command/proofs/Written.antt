@@ -14,9 +14,6 @@ use Rattle.command.specs.Command.{selectOp, loadOp, command, loads, chai
 
 -- ---- lengths
 
-pub length-command : (op n : ℕ) → length (command op n) ≡ 5
-length-command op n = refl
-
 pub length-loads : (ws : List ℕ) → length (loads ws) ≡ 5 * length ws
 unfolding loads
 length-loads [] = refl
@@ -50,9 +47,6 @@ pub bytes-loads : (ws : List ℕ) → Bytes (loads ws)
 unfolding loads
 bytes-loads [] = bytes-nil
 bytes-loads (w ∷ ws) = bytes-append (command loadOp w) (loads ws) (bytes-command loadOp w (lit< tt)) (bytes-loads ws)
-
-pub bytes-chain : (a : ℕ) (ws : List ℕ) → Bytes (chain a ws)
-bytes-chain a ws = bytes-append (command selectOp a) (loads ws) (bytes-command selectOp a (lit< tt)) (bytes-loads ws)
 
 -- ---- words
 

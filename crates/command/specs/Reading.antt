@@ -10,24 +10,24 @@ use Rattle.buffer.specs.declared.Verdict.{Verdict}
 use Rattle.buffer.specs.declared.Verdict.the-variants.{Accepted}
 use Rattle.command.specs.Command.{loadOp}
 
--- 01, 'Chain words': the opcode of the command at the start of s
+-- the opcode of the command at the start of s [W2, B4]
 abbrev pub opcode : List ℕ → ℕ
 opcode s = getD s 0 0
 
--- 01, 'Chain words': its number
+-- the number of the command at the start of s [W2, B4]
 abbrev pub number : List ℕ → ℕ
 number s = u32At s 1
 
--- 01, 'Refusal numbers', 13 and 14: the stream ends inside the command, or it is another one than the one due. `at` is the offset of s
+-- at s, whose offset is `at`, this command is due: 13 if fewer than five bytes are left, then 14 [F13, F14, O5]
 unfoldable pub commandVerdict : ℕ → ℕ → List ℕ → Verdict
 commandVerdict op at s = andThen (refuseIf (ltb (length s) 5) 13 at) (refuseIf (not (eqb (opcode s) op)) 14 at)
 
--- 01, 'Refusal numbers', 13 and 14: so many load commands are due, read left to right
+-- so many loads are due, one behind the other [C1, F13, F14, O5]
 unfoldable pub loadsVerdict : ℕ → ℕ → List ℕ → Verdict
 loadsVerdict zero at s = Accepted
 loadsVerdict (suc k) at s = andThen (commandVerdict loadOp at s) (loadsVerdict k (at + 5) (drop 5 s))
 
--- 01, 'Chain words': the words of so many load commands, in sending order
+-- the numbers of so many load commands, first sent first [G4]
 unfoldable pub wordsIn : ℕ → List ℕ → List ℕ
 wordsIn zero s = []
 wordsIn (suc k) s = number s ∷ wordsIn k (drop 5 s)

@@ -6,9 +6,7 @@ mod read;
 
 pub use put::put_chain;
 pub use read::check_command;
-pub use read::check_loads;
 pub use read::number_at;
-pub use read::take_words;
 
 // The opcodes.
 pub const SELECT: u8 = 0x9E;

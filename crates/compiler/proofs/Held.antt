@@ -8,10 +8,14 @@ use lib.Seq.{split-at, take-at, drop-append-seam}
 use Rattle.command.specs.Command.{chain, Words}
 use Rattle.command.proofs.RoundTrip.{chain-words, chain-past}
 use Rattle.records.specs.Sections.{sections, slotOf, descriptionOf}
-use Rattle.compiler.specs.Items.{addressOf, lengthsOf, chainsOf, chainsFrom, item, itemSize}
-use Rattle.compiler.specs.Stream.{items, sendingOrder, sent, streamOf}
+use Rattle.compiler.specs.Items.{addressOf, lengthsOf, chainsOf, itemSize}
+use Rattle.compiler.proofs.Joined.{chainsFrom, item}
+use Rattle.compiler.specs.Stream.{streamOf}
+use Rattle.kinds.specs.Table.{sendingOrder}
+use Rattle.compiler.proofs.Joined.{items, sent, stream-sent}
 use Rattle.compiler.specs.Chains.{chainWordsOf, wordsRead}
-use Rattle.compiler.proofs.ItemLaws.{chains-lengths, words-fit, item-length, placeOf, place-below, place-sent}
+use Rattle.compiler.proofs.ItemLaws.{chains-lengths, words-fit, item-length}
+use Rattle.kinds.proofs.Addresses.{placeOf, place-below, place-sent}
 
 -- ---- the words of an item are read as they were written, whatever stands behind it
 
@@ -69,7 +73,7 @@ regroup x a i b y = simp append-assoc
 
 pub record-sent : (p : List (List (List ℕ))) (k : ℕ) → k < sections → (i : ℕ) → i < length (getD p k [])
     → SentAt (streamOf p) k (getD (getD p k []) i [])
-unfolding streamOf items sent
+unfolding items sent
 record-sent p k h i l =
     let rs = getD p k [] in
     let r = getD rs i [] in
@@ -79,7 +83,7 @@ record-sent p k h i l =
     let order : sendingOrder ≡ take j sendingOrder ++ (k ∷ drop (suc j) sendingOrder) =
     split-at sendingOrder j 0 (place-below k h) ∙ ap (λ (n : ℕ). take j sendingOrder ++ (n ∷ drop (suc j) sendingOrder)) (place-sent k h) in
     let whole : streamOf p ≡ first ++ (items k rs ++ last) =
-    ap (λ (o : List ℕ). sent o p) order ∙ sent-append (take j sendingOrder) (k ∷ drop (suc j) sendingOrder) p in
+    stream-sent p ∙ ap (λ (o : List ℕ). sent o p) order ∙ sent-append (take j sendingOrder) (k ∷ drop (suc j) sendingOrder) p in
     let part : items k rs ≡ items k (take i rs) ++ (item k r ++ items k (drop (suc i) rs)) =
     ap (items k) (split-at rs i [] l) ∙ items-append k (take i rs) (r ∷ drop (suc i) rs) in
     sent-behind (first ++ items k (take i rs)) (streamOf p) (items k (drop (suc i) rs) ++ last) k r

@@ -1,104 +1,51 @@
 -- Laws of the items of a stream: how many words and bytes each has, that its words fit 32 bits, and that the addresses rise
 -- from item to item in sending order. What holds of a section is shown once for the table of kinds. Assumes nothing.
-use Prim.Native.Nat.{ℕ, zero, suc, _+_, _*_, _≤_, _<_}
+use Prim.Native.Nat.{ℕ, zero, suc, _+_, _*_, _-_, _≤_, _<_, _^_}
 use mathlib.Core.Path.{_≡_, refl, sym, ap, ap₂, _∙_}
 use mathlib.Core.Bool.{Bool, true, false, cond, not, _&&_, _||_, true≢false}
-use mathlib.Core.List.{List, [], _∷_, append-nil, map}
+use mathlib.Core.List.{List, [], _∷_, _++_, map}
 use native.Mathlib.Decide.{decLt}
 use native.Mathlib.Omega.{arith}
+use native.Mathlib.Nat.{zero-mul}
 use borrow.Author.Tests.{lt-ltb, eq-eqb}
 use lib.Dec.{T, eqb, ltb, leb, eqb→eq, ltb→lt, leb→le, lit<, lit≤}
-use lib.ListN.{length, getD, length-append, List·getD-map, List·getD-eq-default}
+use lib.Seq.{drop-drop, length-take-le}
+use lib.ListN.{length, getD, take, drop, replicate, length-append, length-drop}
 use Rattle.lines.proofs.Computed.{everyBelow, every-below}
 use Rattle.lines.proofs.Truth.{and-left, and-right, or-true}
-use Rattle.buffer.specs.declared.Outcome.{Outcome}
-use Rattle.buffer.specs.Room.{bytes, Delivered}
 use Rattle.command.specs.Command.{chain, Words}
 use Rattle.command.proofs.Written.{length-chain}
-use Rattle.records.specs.Sections.{row, rows, noFault, sections, rowOf, mostOf, faultIf, sumFaultOf, descriptionFault, fieldOf, slotOf, descriptionOf, sumOf}
-use Rattle.sheet.specs.Parsed.{Faultless}
-use Rattle.sheet.proofs.Written.{sum-whole}
-use Rattle.term.specs.Words.{termWords}
-use Rattle.range.specs.Words.{rangeWords, lowerValue, upperValue}
-use Rattle.edge.specs.Chain.{edgeWords}
-use Rattle.sum.specs.declared.Sum.{Sum}
-use Rattle.sum.specs.Operation.{codesAccepted}
-use Rattle.sum.specs.Chain.{wordsOf, sumWords}
-use Rattle.sum.specs.Address.{sumAddress}
-use Rattle.term.proofs.Hits.{term-words-length, term-words-fit}
-use Rattle.range.proofs.Tables as range
-use Rattle.edge.proofs.Theorems.{edge-words-length, edge-words-fit}
-use Rattle.sum.proofs.Theorems.{sum-words-length, sum-words-fit}
-use Rattle.compiler.specs.Items.{Kind, kind, kinds, kindOf, rangeChains, addressOf, lengthsOf, chainsOf, chainsFrom, item, sizeOf, itemSize}
-use Rattle.compiler.specs.Stream.{sendingOrder}
-
--- ---- what holds of each kind of the table, and of the empty one, holds of section k
-
-abbrev Each : (P : Kind → Type 0) → List Kind → Type 0
-Each P [] = Unit
-Each P (x ∷ xs) = P x × Each P xs
-
-abbrev none : Kind
-none = kind (λ slot. 0) [] (λ d. [])
-
-each-at : (P : Kind → Type 0) (xs : List Kind) → Each P xs → P none → (k : ℕ) → P (getD xs k none)
-each-at P [] e n k = n
-each-at P (x ∷ xs) e n zero = e .0
-each-at P (x ∷ xs) e n (suc k) = each-at P xs (e .1) n k
-
-of-kind : (P : Kind → Type 0) → Each P kinds → P none → (k : ℕ) → P (kindOf k)
-unfolding kindOf
-of-kind P e n k = each-at P kinds e n k
+use Rattle.records.specs.Sections.{sections, kindOf, mostOf, slotOf, descriptionOf}
+use Rattle.kinds.specs.Table.{wordsOf, chainCount, chainLength, pieces}
+use Rattle.kinds.proofs.Rows.{past, of-any}
+use Rattle.kinds.proofs.Ways as ways
+pub use Rattle.kinds.proofs.Ways.{chains-lengths}
+use Rattle.compiler.specs.Items.{addressOf, lengthsOf, chainsOf, sizeOf, itemSize}
+use Rattle.compiler.proofs.Joined.{chainsFrom, item}
+use Rattle.kinds.specs.Table.{sendingOrder}
 
 -- ---- words
 
--- how many there are, chain by chain
-pub range-lengths : (d : List ℕ) → map length (rangeChains d) ≡ 16 ∷ 16 ∷ []
-unfolding rangeWords
-range-lengths d =
-    let mask = fieldOf d 2 in
-    ap₂ (λ (a b : ℕ). a ∷ b ∷ []) (range.length-chain mask (lowerValue (fieldOf d 0) mask)) (range.length-chain mask (upperValue (fieldOf d 1) mask))
-
-pub chains-lengths : (k : ℕ) (d : List ℕ) → map length (chainsOf k d) ≡ lengthsOf k
-unfolding chainsOf lengthsOf
-chains-lengths k d =
-    of-kind (λ x. map length (x .chains d) ≡ x .lengths) (
-      ap (λ (n : ℕ). n ∷ []) (term-words-length (fieldOf d 0) (fieldOf d 1)),
-      (
-        range-lengths d,
-        (
-          ap (λ (n : ℕ). n ∷ []) (edge-words-length (fieldOf d 0) (fieldOf d 1) (fieldOf d 2)),
-          (ap (λ (n : ℕ). n ∷ []) (sum-words-length d), tt),
-        ),
-      ),
-    )
-    refl k
-
--- each has 32 bits
-one-chain : (ws : List ℕ) → Words ws → (i : ℕ) → Words (getD (ws ∷ []) i [])
-one-chain ws h zero = h
-one-chain ws h (suc i) = λ j. lit< tt
-
-range-fits : (d : List ℕ) (i : ℕ) → Words (getD (rangeChains d) i [])
-unfolding rangeWords
-range-fits d zero = range.chain-fits (fieldOf d 2) (lowerValue (fieldOf d 0) (fieldOf d 2))
-range-fits d (suc zero) = range.chain-fits (fieldOf d 2) (upperValue (fieldOf d 1) (fieldOf d 2))
-range-fits d (suc (suc i)) = λ j. lit< tt
+pieces-fit : (lengths ws : List ℕ) → Words ws → (i : ℕ) → Words (getD (pieces lengths ws) i [])
+unfolding pieces
+pieces-fit [] ws h i = λ j. lit< tt
+pieces-fit (n ∷ ns) ws h zero = λ j. take-fits n ws h j
+  where
+    take-fits : (n : ℕ) (ws : List ℕ) → Words ws → (j : ℕ) → getD (take n ws) j 0 < 2 ^ 32
+    take-fits zero ws h j = lit< tt
+    take-fits (suc n) [] h j = lit< tt
+    take-fits (suc n) (w ∷ ws) h zero = h 0
+    take-fits (suc n) (w ∷ ws) h (suc j) = take-fits n ws (λ i. h (suc i)) j
+pieces-fit (n ∷ ns) ws h (suc i) = pieces-fit ns (drop n ws) (λ j. drop-fits n ws h j) i
+  where
+    drop-fits : (n : ℕ) (ws : List ℕ) → Words ws → (j : ℕ) → getD (drop n ws) j 0 < 2 ^ 32
+    drop-fits zero ws h j = h j
+    drop-fits (suc n) [] h j = lit< tt
+    drop-fits (suc n) (w ∷ ws) h j = drop-fits n ws (λ i. h (suc i)) j
 
 pub words-fit : (k : ℕ) (d : List ℕ) (i : ℕ) → Words (getD (chainsOf k d) i [])
 unfolding chainsOf
-words-fit k d =
-    of-kind (λ x. (i : ℕ) → Words (getD (x .chains d) i [])) (
-      one-chain _ (term-words-fit (fieldOf d 0) (fieldOf d 1)),
-      (
-        range-fits d,
-        (
-          one-chain _ (edge-words-fit (fieldOf d 0) (fieldOf d 1) (fieldOf d 2)),
-          (one-chain _ (sum-words-fit d), tt),
-        ),
-      ),
-    )
-    (λ i j. lit< tt) k
+words-fit k d = pieces-fit (lengthsOf k) (wordsOf k d) (ways.words-fit k d)
 
 -- ---- bytes
 
@@ -113,143 +60,102 @@ pub item-length : (k : ℕ) (r : List ℕ) → length (item k r) ≡ itemSize k
 unfolding item itemSize
 item-length k r = chains-length (addressOf k (slotOf r)) (chainsOf k (descriptionOf r)) ∙ ap sizeOf (chains-lengths k (descriptionOf r))
 
+pub times : (c m : ℕ) → suc c * m ≡ m + c * m
+times c m = omega arith
+
+-- so many chains of as many words each
+pub size-chains : (c n : ℕ) → sizeOf (replicate c n) ≡ c * (5 + 5 * n)
+unfolding sizeOf
+size-chains zero n = let z : 0 ≡ 0 * (5 + 5 * n) = sym (zero-mul (5 + 5 * n)) in z
+size-chains (suc c) n = ap (λ (x : ℕ). 5 + 5 * n + x) (size-chains c n) ∙ sym (times c (5 + 5 * n))
+
+pub item-size : (k : ℕ) → itemSize k ≡ chainCount k * (5 + 5 * chainLength k)
+unfolding itemSize lengthsOf
+item-size k = size-chains (chainCount k) (chainLength k)
+
 -- no item is long
 pub item-bound : (k : ℕ) → itemSize k ≤ 1024
-unfolding itemSize lengthsOf sizeOf
-item-bound k = of-kind (λ x. sizeOf (x .lengths) ≤ 1024) (lit≤ tt, (lit≤ tt, (lit≤ tt, (lit≤ tt, tt)))) (lit≤ tt) k
+unfolding itemSize lengthsOf chainCount chainLength sizeOf
+item-bound k =
+    of-any (λ x. sizeOf (replicate (x .chains) (x .each)) ≤ 1024) (lit≤ tt, (lit≤ tt, (lit≤ tt, (lit≤ tt, tt)))) (lit≤ tt) k
 
--- the sizes as a table, by section
-pub item-sizes : (k : ℕ) → getD (25 ∷ 170 ∷ 45 ∷ 35 ∷ []) k 0 ≡ itemSize k
-unfolding itemSize lengthsOf kindOf sizeOf
-item-sizes k = List·getD-map (λ (x : Kind). sizeOf (x .lengths)) kinds k none
-
-pub item-size-past : (k : ℕ) → sections ≤ k → itemSize k ≡ 0
-item-size-past k h = sym (item-sizes k) ∙ List·getD-eq-default (25 ∷ 170 ∷ 45 ∷ 35 ∷ []) 0 {n = k} h
-
--- ---- addresses
-
-pub address-small : (k slot : ℕ) → k < sections → slot < mostOf k → addressOf k slot < 128
-unfolding addressOf kindOf mostOf rowOf
-address-small k slot hk hs =
-    ltb→lt _ _
-    (every-below (mostOf k) (λ s. ltb (addressOf k s) 128)
-    (every-below sections (λ k. everyBelow (mostOf k) (λ s. ltb (addressOf k s) 128)) tt k hk) slot hs)
-
--- every section has a chain
-pub chains-some : (k : ℕ) → k < sections → 0 < length (lengthsOf k)
-unfolding lengthsOf kindOf
-chains-some k h = ltb→lt _ _ (every-below sections (λ k. ltb 0 (length (lengthsOf k))) tt k h)
-
--- the section that is sent as number i, and as which number section k is sent
-abbrev pub sentAs : ℕ → ℕ
-sentAs i = getD sendingOrder i 0
-
-abbrev pub placeIn : List ℕ → ℕ → ℕ
-placeIn [] k = 0
-placeIn (x ∷ xs) k = cond (eqb x k) 0 (suc (placeIn xs k))
-
-abbrev pub placeOf : ℕ → ℕ
-placeOf k = placeIn sendingOrder k
-
--- each has its place there
-abbrev sentOnce : ℕ → Bool
-sentOnce k = ltb (placeOf k) (length sendingOrder) && eqb (sentAs (placeOf k)) k
-
-sent-once : (k : ℕ) → k < sections → T (sentOnce k)
-sent-once k h = every-below sections sentOnce tt k h
-
-pub place-below : (k : ℕ) → k < sections → placeOf k < length sendingOrder
-place-below k h = ltb→lt _ _ (and-left (ltb (placeOf k) (length sendingOrder)) (eqb (sentAs (placeOf k)) k) (sent-once k h))
-
-pub place-sent : (k : ℕ) → k < sections → sentAs (placeOf k) ≡ k
-place-sent k h = eqb→eq _ _ (and-right (ltb (placeOf k) (length sendingOrder)) (eqb (sentAs (placeOf k)) k) (sent-once k h))
-
--- only sections of the sheet are sent
-pub sent-known : (i : ℕ) → i < length sendingOrder → sentAs i < sections
-sent-known i h = ltb→lt _ _ (every-below (length sendingOrder) (λ i. ltb (sentAs i) sections) tt i h)
-
--- the item of slot a in the section sent as number i goes before that of slot b in the section sent as number j
-abbrev before : (i a j b : ℕ) → Bool
-before i a j b = ltb i j || (eqb i j && ltb a b)
-
--- then all its addresses are below: one test for all the slots of all the sections
-abbrev rises : (i a j b : ℕ) → Bool
-rises i a j b = not (before i a j b) || leb (addressOf (sentAs i) a + length (lengthsOf (sentAs i))) (addressOf (sentAs j) b)
-
-risen : (i a j b : ℕ) → i < length sendingOrder → a < mostOf (sentAs i) → j < length sendingOrder → b < mostOf (sentAs j) → T (rises i a j b)
-unfolding addressOf lengthsOf kindOf mostOf rowOf
-risen i a j b hi ha hj hb =
-    let n = length sendingOrder in
-    every-below (mostOf (sentAs j)) (rises i a j)
-    (every-below n (λ j. everyBelow (mostOf (sentAs j)) (rises i a j))
-    (every-below (mostOf (sentAs i)) (λ a. everyBelow n (λ j. everyBelow (mostOf (sentAs j)) (rises i a j)))
-    (every-below n (λ i. everyBelow (mostOf (sentAs i)) (λ a. everyBelow n (λ j. everyBelow (mostOf (sentAs j)) (rises i a j)))) tt i hi)
-    a ha) j hj) b hb
-
-by-test : (b : Bool) (m n : ℕ) → b ≡ true → T (not b || leb m n) → m ≤ n
-by-test true m n e t = leb→le m n t
-by-test false m n e t = absurd (true≢false (sym e))
-
--- in one section
-pub address-rises : (k a b : ℕ) → k < sections → a < b → b < mostOf k → addressOf k a + length (lengthsOf k) ≤ addressOf k b
-address-rises k a b hk hab hb =
-    let i = placeOf k in
-    let hi = place-below k hk in
-    rw (place-sent k hk) at
-    (by-test (before i a i b) (addressOf (sentAs i) a + length (lengthsOf (sentAs i))) (addressOf (sentAs i) b)
-    (simp (eq-eqb i i refl, lt-ltb a b hab) (or-true (ltb i i)))
-    (risen i a i b hi (rw (place-sent k hk) (omega arith)) hi (rw (place-sent k hk) hb)))
-
--- from one section to a later one
-pub address-later : (i j a b : ℕ) → i < j → j < length sendingOrder → a < mostOf (sentAs i) → b < mostOf (sentAs j)
-    → addressOf (sentAs i) a + length (lengthsOf (sentAs i)) ≤ addressOf (sentAs j) b
-address-later i j a b hij hj ha hb =
-    by-test (before i a j b) (addressOf (sentAs i) a + length (lengthsOf (sentAs i))) (addressOf (sentAs j) b) (simp (lt-ltb i j hij))
-    (risen i a j b (omega arith) ha hj hb)
-
--- ---- the item of a record, kind by kind
-
-pub item-term : (r : List ℕ) → item 0 r ≡ chain (0x20 + slotOf r) (termWords (fieldOf (descriptionOf r) 0) (fieldOf (descriptionOf r) 1))
-unfolding item addressOf chainsOf kindOf chainsFrom
-item-term r = append-nil _
-
-pub item-range : (r : List ℕ) → item 1 r ≡ chainsFrom (0x30 + 2 * slotOf r) (rangeChains (descriptionOf r))
-unfolding item addressOf chainsOf kindOf
-item-range r = refl
-
-pub item-edge : (r : List ℕ)
-    → item 2 r ≡ chain (0x34 + slotOf r) (edgeWords (fieldOf (descriptionOf r) 0) (fieldOf (descriptionOf r) 1) (fieldOf (descriptionOf r) 2))
-unfolding item addressOf chainsOf kindOf chainsFrom
-item-edge r = append-nil _
-
-pub item-sum : (r : List ℕ) → item 3 r ≡ chain (sumAddress (slotOf r)) (wordsOf (descriptionOf r))
-unfolding item addressOf chainsOf kindOf chainsFrom
-item-sum r = append-nil _
-
--- a writer of these bytes is a writer of an item that has them
-pub delivers : {xs ys room room′ : List ℕ} {r : Outcome} → xs ≡ ys → Delivered (bytes xs) room r room′ → Delivered (bytes ys) room r room′
-delivers e d = rw e at d
-
--- ---- the words of a sum without fault
-
-pub sum-codes : (d : List ℕ) → descriptionFault 3 d ≡ 0 → codesAccepted d ≡ true
-unfolding descriptionFault rowOf sumFaultOf
-sum-codes d = go (codesAccepted d)
+-- what is sent for words that lie in longer room
+pub pieces-front : (c n : ℕ) (ws more : List ℕ) → length ws ≡ c * n → pieces (replicate c n) (ws ++ more) ≡ pieces (replicate c n) ws
+unfolding pieces
+pieces-front zero n ws more l = refl
+pieces-front (suc c) n ws more l =
+    let e : length ws ≡ n + c * n = omega arith in
+    ap₂ (λ (x : List ℕ) (xs : List (List ℕ)). x ∷ xs) (take-front n ws more (omega arith))
+    (ap (pieces (replicate c n)) (drop-front n ws more (omega arith)) ∙ pieces-front c n (drop n ws) more (omega (arith, length-drop n ws)))
   where
-    go : (b : Bool) → faultIf (not b) 10 0 ≡ 0 → b ≡ true
-    go true e = refl
-    go false e = absurd (omega arith)
+    take-front : (n : ℕ) (ws more : List ℕ) → n ≤ length ws → take n (ws ++ more) ≡ take n ws
+    take-front zero ws more h = refl
+    take-front (suc n) [] more h = absurd (omega arith)
+    take-front (suc n) (w ∷ ws) more h = ap (λ (xs : List ℕ). w ∷ xs) (take-front n ws more (omega arith))
 
-pub sum-sent : (floor : ℕ) (r : List ℕ) → Faultless 3 floor r → sumWords (sumOf r .ops) .words ≡ wordsOf (descriptionOf r)
-sum-sent floor r f =
-    let d = descriptionOf r in
-    ap (λ (s : Sum). sumWords (s .ops) .words) (sum-whole r (f .whole)) ∙ rw (sum-codes d (f .description-fits))
+    drop-front : (n : ℕ) (ws more : List ℕ) → n ≤ length ws → drop n (ws ++ more) ≡ drop n ws ++ more
+    drop-front zero ws more h = refl
+    drop-front (suc n) [] more h = absurd (omega arith)
+    drop-front (suc n) (w ∷ ws) more h = drop-front n ws more (omega arith)
 
 -- only a section of the sheet has slots
 pub section-known : (k slot : ℕ) → slot < mostOf k → k < sections
-unfolding mostOf rowOf
+unfolding mostOf kindOf
 section-known k slot h =
     elim (decLt k sections) [
       | yes l ↦ l
-      | no n ↦ absurd (omega (arith, rw (List·getD-eq-default rows (row 0 0 noFault) {n = k} (omega arith)) at h))
+      | no n ↦ absurd (omega (arith, rw (past k (omega arith)) at h))
     ]
+
+-- ---- the steps of a run of chains: `left` of them are still to be written, of the words from `from` on
+
+-- one more chain
+pub chains-more : (address left each : ℕ) (ws : List ℕ) → 0 < left
+    → chainsFrom address (pieces (replicate left each) ws) ≡ chain address (take each ws) ++ chainsFrom (address + 1) (pieces (replicate (left - 1) each) (drop each ws))
+unfolding chainsFrom pieces
+chains-more address zero each ws h = absurd (omega arith)
+chains-more address (suc left) each ws h =
+    let e : suc left - 1 ≡ left = omega arith in
+    ap (λ (n : ℕ). chain address (take each ws) ++ chainsFrom (address + 1) (pieces (replicate n each) (drop each ws))) (sym e)
+
+pub chains-over : (address left each : ℕ) (ws : List ℕ) → left ≤ 0 → chainsFrom address (pieces (replicate left each) ws) ≡ []
+unfolding chainsFrom pieces
+chains-over address zero each ws h = refl
+chains-over address (suc left) each ws h = absurd (omega arith)
+
+pub left-less : (left m : ℕ) → 0 < left → left * m ≡ m + (left - 1) * m
+left-less zero m h = absurd (omega arith)
+left-less (suc left) m h = let e : suc left - 1 ≡ left = omega arith in times left m ∙ ap (λ (n : ℕ). m + n * m) (sym e)
+
+-- all of them together
+pub chains-size : (address count each : ℕ) (ws : List ℕ) → count * each ≤ length ws
+    → length (chainsFrom address (pieces (replicate count each) ws)) ≡ count * (5 + 5 * each)
+chains-size address count each ws h =
+    chains-length address (pieces (replicate count each) ws) ∙ ap sizeOf (ways.pieces-lengths count each ws h) ∙ size-chains count each
+
+pub chains-step : (address count left each from : ℕ) (ws : List ℕ) → 0 < left → left ≤ count
+    → chainsFrom (address + (count - left)) (pieces (replicate left each) (drop from ws))
+    ≡ chain (address + (count - left)) (take (from + each - from) (drop from ws))
+    ++ chainsFrom (address + (count - (left - 1))) (pieces (replicate (left - 1) each) (drop (from + each) ws))
+chains-step address count left each from ws h l =
+    let due : address + (count - left) + 1 ≡ address + (count - (left - 1)) = omega arith in
+    let part : from + each - from ≡ each = omega arith in
+    rw (part, ← due, ← drop-drop each from ws) (chains-more (address + (count - left)) left each (drop from ws) h)
+
+pub chain-size : (address each from : ℕ) (ws : List ℕ) → from + each ≤ length ws → length (chain address (take (from + each - from) (drop from ws))) ≡ 5 + 5 * each
+chain-size address each from ws h =
+    let part : from + each - from ≡ each = omega arith in
+    length-chain address (take (from + each - from) (drop from ws))
+    ∙ ap (λ (n : ℕ). 5 + 5 * n) (ap (λ (n : ℕ). length (take n (drop from ws))) part ∙ length-take-le each (drop from ws) (omega (arith, length-drop from ws)))
+
+-- ---- the item of a record, whatever its section: the numbers of the table and the words that lie in longer room
+
+pub item-sent : (k : ℕ) (r : List ℕ) (address count each : ℕ) (ws more : List ℕ) → address ≡ addressOf k (slotOf r) → count ≡ chainCount k
+    → each ≡ chainLength k → ws ≡ wordsOf k (descriptionOf r) ++ more → chainsFrom address (pieces (replicate count each) ws) ≡ item k r
+unfolding item chainsOf lengthsOf
+item-sent k r address count each ws more ea ec ee ew =
+    rw (ea, ec, ee, ew, pieces-front (chainCount k) (chainLength k) (wordsOf k (descriptionOf r)) more (ways.words-count k (descriptionOf r)))
+
+pub room-fits : (k : ℕ) (d : List ℕ) (count each : ℕ) (ws more : List ℕ) → count ≡ chainCount k → each ≡ chainLength k → ws ≡ wordsOf k d ++ more
+    → count * each ≤ length ws
+room-fits k d count each ws more ec ee ew = rw (ec, ee, ew) (omega (arith, length-append (wordsOf k d) more, ways.words-count k d))

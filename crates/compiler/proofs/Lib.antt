@@ -1,3 +1,4 @@
+pub mod Joined
 pub mod ItemLaws
 pub mod StreamLaws
 pub mod Rising

@@ -2,90 +2,29 @@
 use Prim.Native.Nat.{ℕ, zero, suc, _+_, _≤_, _<_}
 use mathlib.Core.Path.{_≡_, refl, sym, ap, _∙_}
 use mathlib.Core.Bool.{Bool, cond, _&&_}
-use mathlib.Core.List.{List, [], _∷_, _++_, append-assoc, map}
+use mathlib.Core.List.{List, [], _∷_, map}
 use native.Mathlib.Omega.{arith}
 use lib.Dec.{T, ltb, leb, leb→le, lit≤}
 use lib.ListN.{length, getD, drop, length-map}
 use lib.Seq.{drop-cons}
 use Rattle.lines.proofs.Computed.{everyBelow, every-below}
 use Rattle.lines.proofs.Truth.{and-left, and-right}
-use Rattle.command.specs.Command.{chain}
-use Rattle.records.specs.Sections.{sections, rowOf, mostOf, slotOf, descriptionOf}
+use Rattle.buffer.proofs.Rising.{Climbs, climbs-from, climbs-rise, map-climbs}
+use Rattle.records.specs.Sections.{sections, kindOf, mostOf, slotOf, descriptionOf}
 use Rattle.sheet.specs.Parsed.{Ordered, WellFormed, render}
 use Rattle.sheet.proofs.Parsed.{render-accepted, parse-render}
 use Rattle.sheet.proofs.Records.{section-ordered}
-use Rattle.compiler.specs.Items.{kindOf, addressOf, lengthsOf, chainsOf, chainsFrom, item}
-use Rattle.compiler.specs.Stream.{items, sendingOrder, sent, streamOf}
-use Rattle.compiler.specs.Chains.{Loaded, loadedAt, loadedIn, loadedBy, commandsOf}
-use Rattle.compiler.proofs.ItemLaws.{chains-lengths, sentAs, sent-known, address-rises}
-
--- ---- the stream is the commands of its chains
-
-commands-append : (cs ds : List Loaded) → commandsOf (cs ++ ds) ≡ commandsOf cs ++ commandsOf ds
-unfolding commandsOf
-commands-append [] ds = refl
-commands-append (c ∷ cs) ds =
-    ap (λ (bs : List ℕ). chain (c .address) (c .words) ++ bs) (commands-append cs ds)
-    ∙ sym (append-assoc (chain (c .address) (c .words)) (commandsOf cs) (commandsOf ds))
-
-commands-at : (address : ℕ) (chains : List (List ℕ)) → chainsFrom address chains ≡ commandsOf (loadedAt address chains)
-unfolding chainsFrom loadedAt commandsOf
-commands-at address [] = refl
-commands-at address (words ∷ more) = ap (λ (bs : List ℕ). chain address words ++ bs) (commands-at (address + 1) more)
-
-commands-in : (k : ℕ) (rs : List (List ℕ)) → items k rs ≡ commandsOf (loadedIn k rs)
-unfolding items item loadedIn commandsOf
-commands-in k [] = refl
-commands-in k (r ∷ rs) =
-    let own = loadedAt (addressOf k (slotOf r)) (chainsOf k (descriptionOf r)) in
-    rw (commands-append own (loadedIn k rs), ← commands-in k rs, ← commands-at (addressOf k (slotOf r)) (chainsOf k (descriptionOf r)))
-
-commands-by : (order : List ℕ) (p : List (List (List ℕ))) → sent order p ≡ commandsOf (loadedBy order p)
-unfolding sent loadedBy commandsOf
-commands-by [] p = refl
-commands-by (k ∷ ks) p = rw (commands-append (loadedIn k (getD p k [])) (loadedBy ks p), ← commands-in k (getD p k []), ← commands-by ks p)
-
-pub stream-commands : (p : List (List (List ℕ))) → streamOf p ≡ commandsOf (loadedBy sendingOrder p)
-unfolding streamOf
-stream-commands p = commands-by sendingOrder p
-
--- ---- numbers that rise strictly, from f on and below g
-
-data Climbs : ℕ → ℕ → List ℕ → Type 0 where
-  done : {f g : ℕ} → f ≤ g → Climbs f g []
-  next : {f g x : ℕ} {xs : List ℕ} → f ≤ x → Climbs (x + 1) g xs → Climbs f g (x ∷ xs)
-
-climbs-from : {f g : ℕ} {xs : List ℕ} (e : ℕ) → e ≤ f → Climbs f g xs → Climbs e g xs
-climbs-from {g = g} e h (Climbs.done l) = let m : e ≤ g = omega arith in Climbs.done m
-climbs-from e h (Climbs.next {x = x} l c) = let m : e ≤ x = omega arith in Climbs.next m c
-
-climbs-bounds : {f g : ℕ} {xs : List ℕ} → Climbs f g xs → f ≤ g
-climbs-bounds (Climbs.done l) = l
-climbs-bounds (Climbs.next l c) = omega (arith, climbs-bounds c)
-
-climbs-append : {f g h : ℕ} {xs ys : List ℕ} → Climbs f g xs → Climbs g h ys → Climbs f h (xs ++ ys)
-climbs-append {f} (Climbs.done l) d = climbs-from f l d
-climbs-append (Climbs.next l c) d = Climbs.next l (climbs-append c d)
-
-climbs-at : {f g : ℕ} {xs : List ℕ} → Climbs f g xs → (i : ℕ) → i < length xs → f ≤ getD xs i 0
-climbs-at (Climbs.done l) i h = absurd (omega arith)
-climbs-at (Climbs.next l c) zero h = l
-climbs-at (Climbs.next l c) (suc i) h = omega (arith, climbs-at c i (omega arith))
-
-climbs-rise : {f g : ℕ} {xs : List ℕ} → Climbs f g xs → (i j : ℕ) → i < j → j < length xs → getD xs i 0 < getD xs j 0
-climbs-rise (Climbs.done l) i j h m = absurd (omega arith)
-climbs-rise (Climbs.next l c) i zero h m = absurd (omega arith)
-climbs-rise (Climbs.next l c) zero (suc j) h m = omega (arith, climbs-at c j (omega arith))
-climbs-rise (Climbs.next l c) (suc i) (suc j) h m = climbs-rise c i j (omega arith) (omega arith)
+use Rattle.kinds.specs.Table.{chainCount, chainLength}
+use Rattle.compiler.specs.Items.{addressOf, lengthsOf, chainsOf}
+use Rattle.kinds.specs.Table.{sendingOrder}
+use Rattle.compiler.specs.Chains.{Loaded, loadedAt, loadedIn, loadedBy}
+use Rattle.compiler.proofs.ItemLaws.{chains-lengths}
+use Rattle.kinds.proofs.Addresses.{sentAs, sent-known, address-rises}
 
 -- ---- the addresses of chains
 
 abbrev addresses : List Loaded → List ℕ
 addresses cs = map (λ (c : Loaded). c .address) cs
-
-addresses-append : (cs ds : List Loaded) → addresses (cs ++ ds) ≡ addresses cs ++ addresses ds
-addresses-append [] ds = refl
-addresses-append (c ∷ cs) ds = ap (λ (xs : List ℕ). c .address ∷ xs) (addresses-append cs ds)
 
 -- of one item
 at-climbs : (address : ℕ) (chains : List (List ℕ)) → Climbs address (address + length chains) (addresses (loadedAt address chains))
@@ -110,9 +49,9 @@ unfolding loadedIn
 in-climbs f g hk fg low high Ordered.done = Climbs.done fg
 in-climbs {k} {floor} f g hk fg low high (Ordered.next {r = r} {rs = rs} own o) =
     let a = addressOf k (slotOf r) in
-    rw (addresses-append (loadedAt a (chainsOf k (descriptionOf r))) (loadedIn k rs))
-    (climbs-append (climbs-from f (low (slotOf r) (own .rising) (own .slot-fits)) (item-climbs k a (descriptionOf r)))
-    (in-climbs (a + length (lengthsOf k)) g hk (high (slotOf r) (own .slot-fits)) (λ slot l m. address-rises k (slotOf r) slot hk (omega arith) m) high o))
+    map-climbs (λ (c : Loaded). c .address) (loadedAt a (chainsOf k (descriptionOf r))) (loadedIn k rs)
+    (climbs-from f (low (slotOf r) (own .rising) (own .slot-fits)) (item-climbs k a (descriptionOf r)))
+    (in-climbs (a + length (lengthsOf k)) g hk (high (slotOf r) (own .slot-fits)) (λ slot l m. address-rises k (slotOf r) slot hk (omega arith) m) high o)
 
 -- ---- from section to section
 
@@ -125,7 +64,7 @@ between i slot =
     leb (startOf i) (addressOf (sentAs i) slot) && leb (addressOf (sentAs i) slot + length (lengthsOf (sentAs i))) (startOf (suc i))
 
 all-between : (i : ℕ) → i < length sendingOrder → (slot : ℕ) → slot < mostOf (sentAs i) → T (between i slot)
-unfolding addressOf lengthsOf kindOf mostOf rowOf
+unfolding addressOf lengthsOf chainCount chainLength kindOf mostOf
 all-between i hi slot hs =
     every-below (mostOf (sentAs i)) (between i)
     (every-below (length sendingOrder) (λ i. everyBelow (mostOf (sentAs i)) (between i)) tt i hi) slot hs
@@ -145,8 +84,8 @@ by-climbs p w zero i e = let four : i ≡ length sendingOrder = omega arith in r
 by-climbs p w (suc n) i e =
     let k = sentAs i in
     let hi : i < length sendingOrder = omega arith in
-    rw (drop-cons sendingOrder i 0 hi, addresses-append (loadedIn k (getD p k [])) (loadedBy (drop (suc i) sendingOrder) p))
-    (climbs-append
+    rw (drop-cons sendingOrder i 0 hi)
+    (map-climbs (λ (c : Loaded). c .address) (loadedIn k (getD p k [])) (loadedBy (drop (suc i) sendingOrder) p)
     (in-climbs (startOf i) (startOf (suc i)) (sent-known i hi) (starts-rise i hi)
     (λ slot l m. leb→le _ _ (and-left (leb (startOf i) (addressOf k slot)) _ (all-between i hi slot m)))
     (λ slot m. leb→le _ _ (and-right (leb (startOf i) (addressOf k slot)) _ (all-between i hi slot m)))
@@ -156,4 +95,4 @@ by-climbs p w (suc n) i e =
 pub stream-climbs : (p : List (List (List ℕ))) → WellFormed p → (i j : ℕ) → i < j → j < length (loadedBy sendingOrder p)
     → getD (map (λ (c : Loaded). c .address) (loadedBy sendingOrder p)) i 0 < getD (map (λ (c : Loaded). c .address) (loadedBy sendingOrder p)) j 0
 stream-climbs p w i j h l =
-    let cs = loadedBy sendingOrder p in climbs-rise (by-climbs p w 4 0 refl) i j h (rw (length-map cs (λ (c : Loaded). c .address)) l)
+    let cs = loadedBy sendingOrder p in climbs-rise (by-climbs p w 4 0 refl) i j 0 h (rw (length-map cs (λ (c : Loaded). c .address)) l)

@@ -1,28 +1,39 @@
 -- Laws of the stream: its length, how loops over records and over sections go through it, and what the records of an accepted
 -- sheet are. Assumes nothing.
-use Prim.Native.Nat.{ℕ, _+_, _*_, _≤_, _<_}
+use Prim.Native.Nat.{ℕ, zero-le, _+_, _-_, _*_, _≤_, _<_}
 use mathlib.Core.Path.{_≡_, sym, ap, ap₂, _∙_}
 use mathlib.Core.List.{List, [], _∷_, _++_}
 use native.Mathlib.Nat.{zero-mul, suc-mul, add-comm, mul-le-mul}
 use native.Mathlib.Numerals.{add-one}
 use native.Mathlib.Omega.{arith}
-use lib.ListN.{length, getD, drop, length-append, drop-of-length-le}
-use lib.Seq.{drop-cons}
+use lib.ListN.{length, getD, take, drop, length-append, length-drop, drop-of-length-le}
+use lib.Seq.{drop-cons, drop-drop}
 use Rattle.buffer.specs.declared.Verdict.the-variants.{Accepted}
-use Rattle.records.specs.Sections.{sections, mostOf}
+use Rattle.records.specs.Sections.{sections, mostOf, recordSize}
 use Rattle.sheet.specs.Reading.{verdict}
-use Rattle.records.specs.Records.{recordCount, recordAt}
-use Rattle.sheet.specs.Parts.{sectionUnchecked}
-use Rattle.sheet.specs.Parsed.{parse}
-use Rattle.records.proofs.Bounds.{most-byte}
+use Rattle.records.specs.Records.{recordCount, recordsIn}
+use Rattle.records.proofs.Records.{records-cons, records-none}
+use Rattle.sheet.specs.Parts.{sectionOf}
+use Rattle.sheet.specs.Parsed.{Faultless, Ordered, parse}
+use Rattle.sheet.proofs.Faults.{with-floor}
+use Rattle.kinds.proofs.Rows.{most-byte}
 use Rattle.sheet.proofs.Parsed.{ordered-count}
-use Rattle.sheet.proofs.Records.{section-ordered}
-use Rattle.sheet.proofs.Theorems.{unchecked-is-section, section-count, section-record}
-use Rattle.compiler.specs.Items.{item, itemSize}
-use Rattle.compiler.specs.Stream.{items, sent}
+use Rattle.sheet.proofs.Records.{section-ordered, records-of}
+use Rattle.sheet.proofs.Theorems.{section-is, section-count}
+use Rattle.compiler.specs.Items.{itemSize}
+use Rattle.compiler.proofs.Joined.{item}
+use Rattle.compiler.proofs.Joined.{items, sent}
 use Rattle.compiler.proofs.ItemLaws.{item-length, item-bound}
 
 -- ---- the items of records
+
+-- records that rise from some slot on rise from 0 on
+lowered : {k floor : ℕ} {rs : List (List ℕ)} → Ordered k floor rs → Ordered k 0 rs
+lowered Ordered.done = Ordered.done
+lowered (Ordered.next f o) = Ordered.next (with-floor 0 zero-le f) o
+
+ordered-parts : {k : ℕ} {r : List ℕ} {rs : List (List ℕ)} → Ordered k 0 (r ∷ rs) → Faultless k 0 r × Ordered k 0 rs
+ordered-parts (Ordered.next f o) = (f, lowered o)
 
 pub items-length : (k : ℕ) (rs : List (List ℕ)) → length (items k rs) ≡ length rs * itemSize k
 unfolding items
@@ -33,14 +44,23 @@ items-length k (r ∷ rs) =
     ∙ add-comm (itemSize k) (length rs * itemSize k)
     ∙ sym (suc-mul (length rs) (itemSize k))
 
--- those of the records from i on: record i's, then those after it
-pub items-from : (k : ℕ) (rs : List (List ℕ)) (i : ℕ) → i < length rs → items k (drop i rs) ≡ item k (getD rs i []) ++ items k (drop (i + 1) rs)
-unfolding items
-items-from k rs i h = rw (add-one, drop-cons rs i [])
+-- what is left of a part from an offset on: its first record, then those after it
+module _ (k : ℕ) (part : List ℕ) (from size : ℕ) (e : size ≡ recordSize k) where
+  module _ (h : size ≤ length part - from) where
+    rest-records : recordsIn k (drop from part) ≡ take size (drop from part) ∷ recordsIn k (drop (from + size) part)
+    rest-records = rw (← drop-drop size from part, e) (records-cons k (drop from part) (rw (← e, length-drop) h))
 
-pub items-end : (k : ℕ) (rs : List (List ℕ)) (i : ℕ) → length rs ≤ i → items k (drop i rs) ≡ []
-unfolding items
-items-end k rs i h = rw (drop-of-length-le rs {i = i} h)
+    pub rest-items : items k (recordsIn k (drop from part)) ≡ item k (take size (drop from part)) ++ items k (recordsIn k (drop (from + size) part))
+    unfolding items
+    rest-items = ap (items k) rest-records
+
+    pub rest-ordered : Ordered k 0 (recordsIn k (drop from part))
+        → Faultless k 0 (take size (drop from part)) × Ordered k 0 (recordsIn k (drop (from + size) part))
+    rest-ordered o = ordered-parts (rw rest-records at o)
+
+  pub rest-over : length part - from < size → items k (recordsIn k (drop from part)) ≡ []
+  unfolding items
+  rest-over h = ap (items k) (records-none k (drop from part) (rw (← e, length-drop) h))
 
 -- ---- the items of sections
 
@@ -56,11 +76,11 @@ sent-end order p i h = rw (drop-of-length-le order {i = i} h)
 -- ---- the records of an accepted sheet, as they are found in a section's part
 
 module _ (s : List ℕ) (ok : verdict s ≡ Accepted) (k : ℕ) (h : k < sections) where
-  pub part-count : recordCount k (sectionUnchecked s k) ≡ length (getD (parse s) k [])
-  part-count = ap (recordCount k) (unchecked-is-section s k ok) ∙ section-count s k h ok
+  pub part-count : recordCount k (sectionOf s k) ≡ length (getD (parse s) k [])
+  part-count = section-count s k h ok
 
-  pub part-record : (i : ℕ) → i < length (getD (parse s) k []) → recordAt k (sectionUnchecked s k) i ≡ getD (getD (parse s) k []) i []
-  part-record i l = ap (λ (part : List ℕ). recordAt k part i) (unchecked-is-section s k ok) ∙ section-record s k h ok i l
+  pub part-records : recordsIn k (sectionOf s k) ≡ getD (parse s) k []
+  part-records = ap (recordsIn k) (section-is s k h ok) ∙ records-of (section-ordered s k h ok)
 
   pub part-most : length (getD (parse s) k []) ≤ mostOf k
   part-most = omega (arith, ordered-count (section-ordered s k h ok) (omega arith))

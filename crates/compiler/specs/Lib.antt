@@ -1,3 +1,3 @@
 pub mod Items
-pub mod Stream
 pub mod Chains
+pub mod Stream

@@ -7,15 +7,15 @@ use lib.ListN.{length}
 use Rattle.buffer.specs.Bytes.{allWithin}
 use Rattle.records.specs.Sections.{sections}
 
--- a word of the digits 0 to 9, at least one
+-- a word of the digits 0 to 9, at least one [A8]
 abbrev pub isDecimal : List ℕ → Bool
 isDecimal word = ltb 0 (length word) && allWithin 48 57 word
 
--- the number that decimal digits give behind n: '0' is 48
+-- the number that decimal digits give behind n: '0' is 48 [A8]
 unfoldable pub decimalFrom : (n : ℕ) (word : List ℕ) → ℕ
 decimalFrom n [] = n
 decimalFrom n (d ∷ ds) = decimalFrom (10 * n + (d - 48)) ds
 
--- 01, 'The set-up sheet': 'a section number above 3, gives an empty part', so all of them may count as the first that no section has
+-- the section asked for; all numbers that no section has may count as the first of them [A8, S10]
 unfoldable pub sectionAsked : List ℕ → ℕ
 sectionAsked word = min (decimalFrom 0 word) sections

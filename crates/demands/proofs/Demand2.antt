@@ -1,4 +1,5 @@
--- DEMAND 2, sentence by sentence, over the laws of the crates below. A sheet and a stream are lists of bytes. Assumes nothing.
+-- DEMAND 2, clause by clause, over the laws of the crates below. A sheet and a stream are lists of bytes. Which room is
+-- enough for every input: Sizes. Assumes nothing.
 use Prim.Native.Nat.{ℕ, _≤_, _<_}
 use mathlib.Core.Path.{_≡_, refl, sym, _∙_}
 use mathlib.Core.List.{List, []}
@@ -14,6 +15,7 @@ use Rattle.buffer.specs.declared.Verdict.{Verdict}
 use Rattle.buffer.specs.declared.Verdict.the-variants.{Accepted}
 use Rattle.buffer.specs.declared.Verdict.the-variants as Verdict
 use Rattle.records.specs.Sections.{sections, fieldOf, descriptionOf}
+use Rattle.kinds.specs.Table.{TERMS, RANGES, EDGES, kindOf, hitOf}
 use Rattle.sheet.specs.Reading.{verdict}
 use Rattle.sheet.specs.Parsed.{parse, render}
 use Rattle.term.specs.Rule.{termHit}
@@ -30,45 +32,51 @@ use Rattle.reader.specs.Back.{sheetIn, readBack}
 use Rattle.reader.specs.Blanked.{blanked}
 use Rattle.reader.specs.Meaning.{WrittenBySheet}
 use Rattle.reader.proofs.Theorems as reader
+use Rattle.demands.proofs.Sizes.{room-for-every-sheet}
 use Rattle.buffer.proofs.Writing.{answered, filled}
 use lib.Seq.{take-append-seam}
 use lib.ListN.{drop}
 
--- "Given room, an accepted sheet gives the very chain words of the Logic Sniffer Specification 1.01": the commands are written
--- whole, their length is answered, and each record's item stands in them with its description's chain words
+-- given room, the commands of an accepted sheet are written whole, and their length is answered [D2.1, K3]
 pub accepted-sheet-is-compiled : (sheet room : List ℕ) (r : Outcome) (room′ : List ℕ) → verdict sheet ≡ Accepted
     → length (streamOf (parse sheet)) ≤ length room → Delivered (compiled sheet) room r room′
     → (r ≡ Done (length (streamOf (parse sheet)))) × (take (length (streamOf (parse sheet))) room′ ≡ streamOf (parse sheet))
 accepted-sheet-is-compiled = compiler.accepted-written
 
+-- and each record's item stands in them with its description's chain words [D2.1]
 pub every-record-is-sent : (sheet : List ℕ) (k : ℕ) → k < sections → (i : ℕ) → i < length (getD (parse sheet) k [])
     → SentAt (streamOf (parse sheet)) k (compiler.recordOf sheet k i)
 every-record-is-sent = compiler.every-record-sent
 
--- "For every sample, or earlier and later sample, those words run in the table and carry model hit exactly when the plain rule
--- for pattern, range or edge says so": of the words that stand in the stream, for record i of the section
+-- of the words that stand in the stream, for record i of the section [D2.2, D2.3, D2.4]
 module _ (sheet : List ℕ) (b : Bytes sheet) (ok : verdict sheet ≡ Accepted) (i : ℕ) where
-  pub pattern-words-hit : (there : SentAt (streamOf (parse sheet)) 0 (compiler.recordOf sheet 0 i)) (sample : ℕ)
-      → let d = descriptionOf (compiler.recordOf sheet 0 i) in
-      runTerm (compiler.streamWords sheet 0 i there) sample ≡ hitOrMiss (termHit (fieldOf d 0) (fieldOf d 1) sample)
+  -- a term's words, run in the model, hit on a sample exactly when the plain rule says hit [D2.2]
+  pub pattern-words-hit : (there : SentAt (streamOf (parse sheet)) TERMS (compiler.recordOf sheet TERMS i)) (sample : ℕ)
+      → let d = descriptionOf (compiler.recordOf sheet TERMS i) in
+      runTerm (compiler.streamWords sheet TERMS i there) sample ≡ hitOrMiss (termHit (fieldOf d 0) (fieldOf d 1) sample)
+  unfolding hitOf kindOf
   pattern-words-hit = compiler.sheet-term-hits sheet b ok i
 
-  pub range-words-hit : i < length (getD (parse sheet) 1 []) → (there : SentAt (streamOf (parse sheet)) 1 (compiler.recordOf sheet 1 i)) (sample : ℕ)
-      → let d = descriptionOf (compiler.recordOf sheet 1 i) in
-      runRange (compiler.streamWords sheet 1 i there) sample ≡ hitOrMiss (rangeHit (fieldOf d 0) (fieldOf d 1) (fieldOf d 2) sample)
+  -- a range's words likewise [D2.3]
+  pub range-words-hit : i < length (getD (parse sheet) RANGES []) → (there : SentAt (streamOf (parse sheet)) RANGES (compiler.recordOf sheet RANGES i)) (sample : ℕ)
+      → let d = descriptionOf (compiler.recordOf sheet RANGES i) in
+      runRange (compiler.streamWords sheet RANGES i there) sample ≡ hitOrMiss (rangeHit (fieldOf d 0) (fieldOf d 1) (fieldOf d 2) sample)
+  unfolding hitOf kindOf
   range-words-hit = compiler.sheet-range-hits sheet b ok i
 
-  pub edge-words-hit : (there : SentAt (streamOf (parse sheet)) 2 (compiler.recordOf sheet 2 i)) (earlier later : ℕ)
-      → let d = descriptionOf (compiler.recordOf sheet 2 i) in
-      runEdge (compiler.streamWords sheet 2 i there) earlier later ≡ hitOrMiss (edgeHit (fieldOf d 0) (fieldOf d 1) (fieldOf d 2) earlier later)
+  -- an edge's words likewise, on an earlier and a later sample [D2.4]
+  pub edge-words-hit : (there : SentAt (streamOf (parse sheet)) EDGES (compiler.recordOf sheet EDGES i)) (earlier later : ℕ)
+      → let d = descriptionOf (compiler.recordOf sheet EDGES i) in
+      runEdge (compiler.streamWords sheet EDGES i there) earlier later ≡ hitOrMiss (edgeHit (fieldOf d 0) (fieldOf d 1) (fieldOf d 2) earlier later)
+  unfolding hitOf kindOf
   edge-words-hit = compiler.sheet-edge-hits sheet b ok i
 
--- "Reading the commands back gives the sheet without labels and ignored target bits"
+-- what was compiled is read back as the sheet with blank labels and each target cut to its mask [D2.5]
 pub reading-gives-the-sheet : (sheet : List ℕ) → Bytes sheet → verdict sheet ≡ Accepted
     → readBack (streamOf (parse sheet)) ≡ bytes (render (blanked (parse sheet)))
 reading-gives-the-sheet = reader.round-trip
 
--- given room for it, that sheet is what stands in the room
+-- given room for it, that sheet is what stands in the room [D2.5]
 pub reading-writes-the-sheet : (sheet room : List ℕ) (r : Outcome) (room′ : List ℕ) → Bytes sheet → verdict sheet ≡ Accepted
     → length (render (blanked (parse sheet))) ≤ length room → Delivered (readBack (streamOf (parse sheet))) room r room′
     → (r ≡ Done (length (render (blanked (parse sheet))))) × (take (length (render (blanked (parse sheet)))) room′ ≡ render (blanked (parse sheet)))
@@ -77,27 +85,26 @@ reading-writes-the-sheet sheet room r room′ b ok fits d =
     let d′ = rw (reader.round-trip sheet b ok) at d in
     (answered back room r room′ fits d′, rw (filled back room r room′ fits d′) (take-append-seam back (drop (length back) room)))
 
--- "given room for the sheet, a stream is accepted exactly if some accepted sheet writes it"
+-- the reader accepts a stream exactly when the compiler writes it for an accepted sheet [D2.6]
 pub accepted-iff-some-sheet-writes-it : (stream : List ℕ) → Bytes stream → (streamVerdict stream ≡ Accepted) ↔ WrittenBySheet stream
 accepted-iff-some-sheet-writes-it = reader.accepted-exactly
 
--- the same of the call's answer: done, and nothing else, exactly then
-pub done-iff-some-sheet-writes-it : (stream room : List ℕ) (r : Outcome) (room′ : List ℕ) → Bytes stream
-    → length (render (sheetIn stream)) ≤ length room → Delivered (readBack stream) room r room′
-    → (r ≡ Done (length (render (sheetIn stream)))) ↔ WrittenBySheet stream
+-- the same of the call's answer: given room for the longest sheet, it is a success exactly then [D2.6, A9]
+pub done-iff-some-sheet-writes-it : (stream room : List ℕ) (r : Outcome) (room′ : List ℕ) → Bytes stream → 1218 ≤ length room
+    → Delivered (readBack stream) room r room′ → ((n : ℕ) × (r ≡ Done n)) ↔ WrittenBySheet stream
 done-iff-some-sheet-writes-it stream room r room′ b fits d = (
-  λ e. reader.accepted-exactly stream b .0 (accepted (streamVerdict stream) (sym e ∙ d .answer)),
-  λ w. answered sheet room r room′ fits (rw (reader.accepted-exactly stream b .1 w) at d),
+  λ e. reader.accepted-exactly stream b .0 (accepted (streamVerdict stream) (e .0) (sym (e .1) ∙ d .answer)),
+  λ w. (length sheet, room-for-every-sheet stream room r room′ b fits d (reader.accepted-exactly stream b .1 w)),
 )
   where
     sheet : List ℕ
     sheet = render (sheetIn stream)
 
-    accepted : (v : Verdict) → Done (length sheet) ≡ outcome (unless v sheet) (length room) → v ≡ Accepted
-    accepted Accepted e = refl
-    accepted (Verdict.Refused number place) e = let z : _≡_ {A = ℕ} 0 1 = cc in absurd (omega arith)
+    accepted : (v : Verdict) (n : ℕ) → Done n ≡ outcome (unless v sheet) (length room) → v ≡ Accepted
+    accepted Accepted n e = refl
+    accepted (Verdict.Refused number place) n e = let z : _≡_ {A = ℕ} 0 1 = cc in absurd (omega arith)
 
--- and what is read of it is an accepted sheet, which compiles to the stream again
+-- and what is read of it is an accepted sheet, which compiles to the stream again [D2.6]
 pub what-is-read-is-a-sheet : (stream : List ℕ) → Bytes stream → streamVerdict stream ≡ Accepted
     → (verdict (render (sheetIn stream)) ≡ Accepted) × (compiled (render (sheetIn stream)) ≡ bytes stream)
 what-is-read-is-a-sheet stream b ok = (reader.read-accepted stream b ok, reader.read-compiled stream b ok)

@@ -1,79 +1,69 @@
--- Equal chain words and equal behaviour, of two accepted descriptions of one kind. A description's chain words are `chainWordsOf`,
--- the numbers of the load commands that the compiler writes for it. Assumes nothing.
+-- Equal chain words and equal behaviour, of two accepted descriptions of one section. A description's chain words are
+-- `chainWordsOf`, the numbers of the load commands that the compiler writes for it. Assumes nothing.
 use Prim.Native.Nat.{ℕ}
-use mathlib.Core.Path.{_≡_, sym, ap, _∙_}
-use mathlib.Core.List.{List, _++_, append-nil, flatten}
+use mathlib.Core.Path.{_≡_, sym, _∙_}
+use mathlib.Core.List.{List}
 use mathlib.Core.Logic.{_↔_}
-use Rattle.lut.specs.Telling.{HitAlike, HitAlike₂}
-use Rattle.records.specs.Sections.{fieldOf}
-use Rattle.sheet.specs.Parsed.{AcceptedDescription}
-use Rattle.sheet.proofs.Descriptions.{description-sound, description-bytes}
-use Rattle.term.specs.Rule.{termHit}
-use Rattle.term.specs.Words.{termWords}
-use Rattle.term.proofs.Theorems as term
-use Rattle.range.specs.Rule.{hitOf}
-use Rattle.range.specs.Words.{rangeWords, sentWords, lowerChain, upperChain, wordsOf}
+use Rattle.lut.specs.Telling.{HitAlike}
+use Rattle.term.specs.Description as term
+use Rattle.term.proofs.Theorems as term-theorems
+use Rattle.range.specs.Description as range
+use Rattle.range.specs.Words.{wordsOf}
+use Rattle.range.proofs.Theorems as range-theorems
 use Rattle.range_telling.specs.Reduce.{reduceOf}
 use Rattle.range_telling.specs.Matter.{DroppedWords}
-use Rattle.range.proofs.Theorems as range
-use Rattle.range_telling.proofs.Theorems as range-telling
-use Rattle.edge.specs.Chain.{edgeWords}
-use Rattle.edge.specs.Telling.{hits}
-use Rattle.edge.proofs.Theorems as edge
-use Rattle.compiler.specs.Items.{kindOf, chainsOf}
+use Rattle.range_telling.proofs.Theorems as telling-theorems
+use Rattle.edge.specs.Description as edge
+use Rattle.edge.proofs.Theorems as edge-theorems
+use Rattle.kinds.specs.Table as table
+use Rattle.kinds.specs.Table.{TERMS, RANGES, EDGES, Accepted, hitOf}
+use Rattle.kinds.proofs.Ways.{chains-flat, faultless-iff-accepted}
+use Rattle.sheet.specs.Parsed.{AcceptedDescription}
+use Rattle.sheet.proofs.Descriptions.{description-known, description-sound, description-bytes}
 use Rattle.compiler.specs.Chains.{chainWordsOf}
-use Rattle.notice.specs.Findings.{rangeOf, edgeOf}
-use Rattle.demands.proofs.Tellings.{field-small, range-accepted, edge-accepted}
 
--- ---- the words of each kind
+accepted : (k : ℕ) (d : List ℕ) → AcceptedDescription k d → Accepted k d
+accepted k d a =
+    let sound = description-sound k d a in
+    faultless-iff-accepted k (description-known k d a) d (description-bytes k d a) (sound .0) .0 (sound .1)
 
-pattern-words : (d : List ℕ) → chainWordsOf 0 d ≡ termWords (fieldOf d 0) (fieldOf d 1)
-unfolding chainsOf kindOf flatten
-pattern-words d = append-nil _
+-- the words of the chains are the words
+flat : (k : ℕ) (d e : List ℕ) → chainWordsOf k d ≡ chainWordsOf k e → table.wordsOf k d ≡ table.wordsOf k e
+flat k d e q = sym (chains-flat k d) ∙ q ∙ chains-flat k e
 
-range-words : (d : List ℕ) → chainWordsOf 1 d ≡ sentWords (fieldOf d 0) (fieldOf d 1) (fieldOf d 2)
-unfolding chainsOf kindOf flatten rangeWords sentWords
-range-words d = ap (λ (ws : List ℕ). lowerChain (fieldOf d 0) (fieldOf d 2) ++ ws) (append-nil (upperChain (fieldOf d 1) (fieldOf d 2)))
-
-edge-words : (d : List ℕ) → chainWordsOf 2 d ≡ edgeWords (fieldOf d 0) (fieldOf d 1) (fieldOf d 2)
-unfolding chainsOf kindOf flatten
-edge-words d = append-nil _
-
--- ---- the laws
+chained : (k : ℕ) (d e : List ℕ) → table.wordsOf k d ≡ table.wordsOf k e → chainWordsOf k d ≡ chainWordsOf k e
+chained k d e q = chains-flat k d ∙ q ∙ sym (chains-flat k e)
 
 -- patterns
-pub patterns-alike : (d e : List ℕ) → AcceptedDescription 0 d → AcceptedDescription 0 e
-    → (chainWordsOf 0 d ≡ chainWordsOf 0 e) ↔ HitAlike (termHit (fieldOf d 0) (fieldOf d 1)) (termHit (fieldOf e 0) (fieldOf e 1))
+pub patterns-alike : (d e : List ℕ) → AcceptedDescription TERMS d → AcceptedDescription TERMS e
+    → (chainWordsOf TERMS d ≡ chainWordsOf TERMS e) ↔ HitAlike (hitOf TERMS d) (hitOf TERMS e)
+unfolding table.wordsOf hitOf table.kindOf term.words
 patterns-alike d e a b =
-    let bd = description-bytes 0 d a in
-    let be = description-bytes 0 e b in
-    let t = term.equal-words-iff-alike (fieldOf d 0) (fieldOf d 1) (fieldOf e 0) (fieldOf e 1) (field-small d 0 bd) (field-small d 1 bd)
-    (field-small e 0 be) (field-small e 1 be) in
-    ((λ q. t .0 (sym (pattern-words d) ∙ q ∙ pattern-words e)), (λ h. pattern-words d ∙ t .1 h ∙ sym (pattern-words e)))
+    let t = term-theorems.equal-words-iff-alike (term.fromBytes d) (term.fromBytes e) (accepted TERMS d a) (accepted TERMS e b) in
+    ((λ q. t .0 (flat TERMS d e q)), (λ h. chained TERMS d e (t .1 h)))
 
 -- edges
-pub edges-alike : (d e : List ℕ) → AcceptedDescription 2 d → AcceptedDescription 2 e
-    → (chainWordsOf 2 d ≡ chainWordsOf 2 e) ↔ HitAlike₂ (hits (edgeOf d)) (hits (edgeOf e))
+pub edges-alike : (d e : List ℕ) → AcceptedDescription EDGES d → AcceptedDescription EDGES e
+    → (chainWordsOf EDGES d ≡ chainWordsOf EDGES e) ↔ HitAlike (hitOf EDGES d) (hitOf EDGES e)
+unfolding table.wordsOf hitOf table.kindOf edge.words
 edges-alike d e a b =
-    let t = edge.equal-words-hit-alike (edgeOf d) (edgeOf e) (edge-accepted d (description-bytes 2 d a) (description-sound 2 d a .1))
-    (edge-accepted e (description-bytes 2 e b) (description-sound 2 e b .1)) in
-    ((λ q. t .0 (sym (edge-words d) ∙ q ∙ edge-words e)), (λ h. edge-words d ∙ t .1 h ∙ sym (edge-words e)))
+    let t = edge-theorems.equal-words-iff-alike (edge.fromBytes d) (edge.fromBytes e) (accepted EDGES d a) (accepted EDGES e b) in
+    ((λ q. t .0 (flat EDGES d e q)), (λ h. chained EDGES d e (t .1 h)))
 
--- ranges as they are
-pub ranges-alike : (d e : List ℕ) → AcceptedDescription 1 d → AcceptedDescription 1 e
-    → chainWordsOf 1 d ≡ chainWordsOf 1 e → HitAlike (hitOf (rangeOf d)) (hitOf (rangeOf e))
-ranges-alike d e a b q =
-    range.ranges-of-equal-words (rangeOf d) (rangeOf e) (range-accepted d (description-bytes 1 d a) (description-sound 1 d a .1))
-    (range-accepted e (description-bytes 1 e b) (description-sound 1 e b .1)) (sym (range-words d) ∙ q ∙ range-words e)
+module _ (d e : List ℕ) (a : AcceptedDescription RANGES d) (b : AcceptedDescription RANGES e) where
+  -- ranges as they are
+  pub ranges-alike : chainWordsOf RANGES d ≡ chainWordsOf RANGES e → HitAlike (hitOf RANGES d) (hitOf RANGES e)
+  unfolding table.wordsOf hitOf table.kindOf range.words
+  ranges-alike q =
+      range-theorems.equal-words-alike (range.fromBytes d) (range.fromBytes e) (accepted RANGES d a) (accepted RANGES e b) (flat RANGES d e q)
 
--- every accepted range has words with the lines that cannot matter dropped: those of the range that is left
-pub dropped-words-are : (d ws : List ℕ) → AcceptedDescription 1 d → DroppedWords (rangeOf d) ws ↔ (ws ≡ wordsOf (reduceOf (rangeOf d)))
-dropped-words-are d ws a =
-    range-telling.range-dropped-exactly (rangeOf d) (range-accepted d (description-bytes 1 d a) (description-sound 1 d a .1)) ws
+  -- ranges with the lines dropped that cannot matter
+  pub dropped-alike : (ws vs : List ℕ) → DroppedWords (range.fromBytes d) ws → DroppedWords (range.fromBytes e) vs
+      → (ws ≡ vs) ↔ HitAlike (hitOf RANGES d) (hitOf RANGES e)
+  unfolding hitOf table.kindOf
+  dropped-alike =
+      telling-theorems.equal-dropped-words-iff-alike (range.fromBytes d) (range.fromBytes e) (accepted RANGES d a) (accepted RANGES e b)
 
--- ranges with those lines dropped
-pub dropped-alike : (d e ws vs : List ℕ) → AcceptedDescription 1 d → AcceptedDescription 1 e
-    → DroppedWords (rangeOf d) ws → DroppedWords (rangeOf e) vs → (ws ≡ vs) ↔ HitAlike (hitOf (rangeOf d)) (hitOf (rangeOf e))
-dropped-alike d e ws vs a b =
-    range-telling.ranges-dropped-alike (rangeOf d) (rangeOf e) (range-accepted d (description-bytes 1 d a) (description-sound 1 d a .1))
-    (range-accepted e (description-bytes 1 e b) (description-sound 1 e b .1)) ws vs
+-- every accepted range has words with those lines dropped: those of the range that is left
+pub dropped-words-are : (d ws : List ℕ) → AcceptedDescription RANGES d → DroppedWords (range.fromBytes d) ws ↔ (ws ≡ wordsOf (reduceOf (range.fromBytes d)))
+dropped-words-are d ws a = telling-theorems.dropped-exactly (range.fromBytes d) (accepted RANGES d a) ws

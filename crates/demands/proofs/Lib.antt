@@ -2,11 +2,10 @@ pub mod BenchHolds
 pub mod Demand1
 pub mod Demand2
 pub mod Tellings
-pub mod SlotLines
 pub mod EqualWords
-pub mod AlterationLines
-pub mod Demand3
 pub mod NoticeBytes
+pub mod AlterationLines
 pub mod NoticeLists
+pub mod Demand3
 pub mod Sizes
 pub mod NoticeExamples

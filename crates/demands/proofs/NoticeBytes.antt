@@ -1,21 +1,28 @@
 -- The notice's bytes determine its lines: `lineBack` finds the line at the front of rendered text. Assumes nothing.
 use Prim.Native.Nat.{ℕ, zero, suc, _+_, _-_, _*_, _/_, _%_, _^_, _<_}
 use mathlib.Core.Path.{_≡_, refl, sym, ap, ap₂, _∙_}
-use mathlib.Core.Bool.{cond}
+use mathlib.Core.Bool.{Bool, false, cond}
 use mathlib.Core.List.{List, [], _∷_, _++_, append-assoc, List·Memᴰ, List·Memᴰ·head, List·Memᴰ·tail}
 use native.Mathlib.Omega.{arith}
 use native.Mathlib.Nat.{mod-eq-of-lt, mod-lt, one-le-pow, pow-succ', add-mul, mul-assoc}
 use native.Mathlib.Decide.{decLt}
 use lib.ListN.{length, getD, take, drop, length-append}
-use lib.Seq.{drop-append-seam}
-use lib.Dec.{eqb, ltb, lit<}
+use lib.Seq.{drop-append-seam, take-at, drop-at}
+use lib.Dec.{eqb, eqb→eq, ltb, lit<}
 use lib.Arith.{mod-mul}
-use borrow.Author.Tests.{lt-ltb, le-ltb}
+use borrow.Author.Tests.{lt-ltb, le-ltb, ne-eqb}
+use Rattle.lines.proofs.Computed.{every-below}
+use Rattle.lut.specs.Input.{Fits}
+use Rattle.lut.specs.declared.Input.{Input}
+use Rattle.lut.specs.declared.Input.the-variants.{Nothing, Sample, Samples, Sources}
+use Rattle.buffer.specs.Same.{same}
+use Rattle.kinds.specs.Table.{sections, kindOf, nameOf}
+use Rattle.kinds.specs.declared.Change.the-variants.{Oper, Word, Altr}
 use Rattle.notice.specs.declared.Finding.{Finding}
-use Rattle.notice.specs.declared.Finding.the-variants.{New, Gone, Name, Oper, Word, AltrOne, AltrTwo}
+use Rattle.notice.specs.declared.Finding.the-variants.{New, Gone, Name, Changed}
 use Rattle.notice.specs.declared.Line.{Line}
-use Rattle.notice.specs.Text.{hexDigit, hex, kindText, slotText, findingText, render, renderAll}
-use Rattle.notice.proofs.Lines.{render-length}
+use Rattle.notice.specs.Text.{hexDigit, hex, slotText, inputText, findingText, render, renderAll}
+use Rattle.notice.proofs.Lines.{name-length, render-length}
 
 -- ---- digits
 
@@ -46,73 +53,103 @@ unhex-hex (suc n) x acc =
     ∙ unhex-hex n x (acc * 16 + d)
     ∙ rw (pow-succ' 16 n, e, add-mul (acc * 16) d p, mul-assoc acc 16 p) (omega arith)
 
-unhex-eight : (x : ℕ) → x < 2 ^ 32 → unhex 0 (hex 8 x) ≡ x
-unhex-eight x h = unhex-hex 8 x 0 ∙ rw (mod-eq-of-lt h) (omega arith)
+unhex-all : (n x : ℕ) → x < 16 ^ n → unhex 0 (hex n x) ≡ x
+unhex-all n x h = unhex-hex n x 0 ∙ rw (mod-eq-of-lt h) (omega arith)
+
+-- no digit ends the line
+digit-not-end : (d : ℕ) → eqb (hexDigit d) 10 ≡ false
+digit-not-end d =
+    elim (decLt d 10) [
+      | yes l ↦ rw (lt-ltb d 10 l) (ne-eqb (48 + d) 10 (λ e. omega arith))
+      | no l ↦ rw (le-ltb d 10 (omega arith)) (ne-eqb (55 + d) 10 (λ e. omega arith))
+    ]
 
 -- ---- a line
 
-sectionBack : ℕ → ℕ
-sectionBack c = cond (eqb c 84) 0 (cond (eqb c 82) 1 (cond (eqb c 69) 2 3))
+-- of n sections from section k on, the one with these letters
+sectionFrom : (n k : ℕ) → List ℕ → ℕ
+sectionFrom zero k letters = k
+sectionFrom (suc n) k letters = cond (same (nameOf k) letters) k (sectionFrom n (k + 1) letters)
+
+section-back : (k : ℕ) → k < sections → sectionFrom sections 0 (nameOf k) ≡ k
+unfolding sectionFrom nameOf kindOf same
+section-back k h = eqb→eq _ _ (every-below sections (λ k. eqb (sectionFrom sections 0 (nameOf k)) k) tt k h)
 
 slotBack : List ℕ → ℕ
 slotBack b = (getD b 1 0 - 48) * 10 + (getD b 2 0 - 48)
+
+-- the input that ALTR shows, by where the line ends
+inputBack : List ℕ → Input
+inputBack b =
+    cond (eqb (getD b 0 0) 10) Nothing
+    (cond (eqb (getD b 5 0) 10)
+    (Sources (unhex 0 (take 4 (drop 1 b))))
+    (cond (eqb (getD b 9 0) 10)
+    (Sample (unhex 0 (take 8 (drop 1 b))))
+    (Samples (unhex 0 (take 8 (drop 1 b))) (unhex 0 (take 8 (drop 10 b))))))
 
 findingBack : List ℕ → Finding
 findingBack b =
     cond (eqb (getD b 0 0) 78) (cond (eqb (getD b 1 0) 69) New Name)
     (cond (eqb (getD b 0 0) 71) Gone
-    (cond (eqb (getD b 0 0) 79) Oper
-    (cond (eqb (getD b 0 0) 87) Word
-    (cond (eqb (getD b 13 0) 10)
-    (AltrOne (unhex 0 (take 8 (drop 5 b))))
-    (AltrTwo (unhex 0 (take 8 (drop 5 b))) (unhex 0 (take 8 (drop 14 b))))))))
+    (cond (eqb (getD b 0 0) 79) (Changed Oper)
+    (cond (eqb (getD b 0 0) 87) (Changed Word)
+    (Changed (Altr (inputBack (drop 4 b)))))))
 
 -- the line at the front of rendered text
-pub lineBack : List ℕ → Line
-lineBack b = record { section = sectionBack (getD b 0 0); slot = slotBack (drop 4 b); finding = findingBack (drop 8 b) }
+lineBack : List ℕ → Line
+lineBack b = record { section = sectionFrom sections 0 (take 4 b); slot = slotBack (drop 4 b); finding = findingBack (drop 4 (drop 4 b)) }
 
--- a line of one of the four sections whose samples have 32 bits
+-- a line of a section that a sheet has, whose input can be written
 abbrev pub Shows : Finding → Type 0
 Shows New = Unit {0}
 Shows Gone = Unit {0}
 Shows Name = Unit {0}
-Shows Oper = Unit {0}
-Shows Word = Unit {0}
-Shows (AltrOne s) = s < 2 ^ 32
-Shows (AltrTwo e l) = (e < 2 ^ 32) × (l < 2 ^ 32)
+Shows (Changed Oper) = Unit {0}
+Shows (Changed Word) = Unit {0}
+Shows (Changed (Altr input)) = Fits input
 
 pub record Valid (l : Line) : Type 0 where
-  pub known : l .section < 4
+  pub known : l .section < sections
   pub shows : Shows (l .finding)
+
+otherwise : (b : Bool) (x y : Input) → b ≡ false → cond b x y ≡ y
+otherwise b x y e = rw e
+
+input-back : (i : Input) (rest : List ℕ) → Fits i → inputBack ((inputText i ++ (10 ∷ [])) ++ rest) ≡ i
+unfolding inputBack
+input-back Nothing rest h = refl
+input-back (Sample s) rest h = otherwise _ _ _ (digit-not-end (s / 16 ^ 3 % 16)) ∙ ap Sample (unhex-all 8 s h)
+input-back (Samples e l) rest h =
+    otherwise _ _ _ (digit-not-end (e / 16 ^ 3 % 16)) ∙ ap₂ Samples (unhex-all 8 e (h .0)) (unhex-all 8 l (h .1))
+input-back (Sources s) rest h = ap Sources (unhex-all 4 s h)
 
 finding-back : (f : Finding) (rest : List ℕ) → Shows f → findingBack (findingText f ++ rest) ≡ f
 unfolding findingBack
 finding-back New rest h = refl
 finding-back Gone rest h = refl
 finding-back Name rest h = refl
-finding-back Oper rest h = refl
-finding-back Word rest h = refl
-finding-back (AltrOne s) rest h = ap AltrOne (unhex-eight s h)
-finding-back (AltrTwo e l) rest h = ap₂ AltrTwo (unhex-eight e (h .0)) (unhex-eight l (h .1))
+finding-back (Changed Oper) rest h = refl
+finding-back (Changed Word) rest h = refl
+finding-back (Changed (Altr i)) rest h = ap (λ (x : Input). Changed (Altr x)) (input-back i rest h)
 
 slot-back : (s : ℕ) (rest : List ℕ) → slotBack (slotText s ++ rest) ≡ s
 unfolding slotBack
 slot-back s rest = omega arith
 
-parts : (k s : ℕ) (f : Finding) (rest : List ℕ) → k < 4 → Shows f
-    → lineBack (kindText k ++ (slotText s ++ (findingText f ++ rest))) ≡ record { section = k; slot = s; finding = f }
-unfolding lineBack sectionBack
-parts zero s f rest k h = λ i. record { section = 0; slot = slot-back s (findingText f ++ rest) i; finding = finding-back f rest h i }
-parts (suc zero) s f rest k h = λ i. record { section = 1; slot = slot-back s (findingText f ++ rest) i; finding = finding-back f rest h i }
-parts (suc (suc zero)) s f rest k h = λ i. record { section = 2; slot = slot-back s (findingText f ++ rest) i; finding = finding-back f rest h i }
-parts (suc (suc (suc zero))) s f rest k h = λ i. record { section = 3; slot = slot-back s (findingText f ++ rest) i; finding = finding-back f rest h i }
-parts (suc (suc (suc (suc j)))) s f rest k h = absurd (omega arith)
+parts : (k s : ℕ) (f : Finding) (rest : List ℕ) → k < sections → Shows f
+    → lineBack (nameOf k ++ (slotText s ++ (findingText f ++ rest))) ≡ record { section = k; slot = s; finding = f }
+unfolding lineBack
+parts k s f rest h v =
+    let more = slotText s ++ (findingText f ++ rest) in
+    rw (take-at (nameOf k) more 4 (name-length k), drop-at (nameOf k) more 4 (name-length k), section-back k h)
+    (λ i. record { section = k; slot = slot-back s (findingText f ++ rest) i; finding = finding-back f rest v i })
 
-pub line-back : (l : Line) (rest : List ℕ) → Valid l → lineBack (render l ++ rest) ≡ l
+line-back : (l : Line) (rest : List ℕ) → Valid l → lineBack (render l ++ rest) ≡ l
 unfolding render
 line-back l rest v =
-    ap lineBack (append-assoc (kindText (l .section) ++ slotText (l .slot)) (findingText (l .finding)) rest
-    ∙ append-assoc (kindText (l .section)) (slotText (l .slot)) (findingText (l .finding) ++ rest))
+    ap lineBack (append-assoc (nameOf (l .section) ++ slotText (l .slot)) (findingText (l .finding)) rest
+    ∙ append-assoc (nameOf (l .section)) (slotText (l .slot)) (findingText (l .finding) ++ rest))
     ∙ parts (l .section) (l .slot) (l .finding) rest (v .known) (v .shows)
 
 -- ---- a notice

@@ -8,16 +8,19 @@ use lib.ListN.{replicate}
 use Rattle.buffer.specs.Bytes.{u32At}
 use Rattle.lines.specs.Line.{flipLine}
 use Rattle.lines.specs.Gather.{gathered, scattered, dropLowest}
-use Rattle.lines.specs.Same.{same}
-use Rattle.records.specs.Sections.{fieldBytes, rowOf, mostOf, descriptionSize}
+use Rattle.buffer.specs.Same.{same}
+use Rattle.records.specs.Sections.{fieldBytes, kindOf, mostOf, descriptionSize}
 use Rattle.records.specs.Records.{recordsFrom, find}
 use Rattle.sheet.specs.Parsed.{joined, render, sectionsFrom, parse}
-use Rattle.term.specs.Telling.{leastTelling}
+use Rattle.kinds.specs.Table.{nameOf, changeOf}
+use Rattle.term.specs.Description as term-kind
+use Rattle.term.specs.Telling.{termTelling}
 use Rattle.range.specs.Rule.{rangeHit}
+use Rattle.range_telling.specs.Description as range-telling-kind
 use Rattle.range_telling.specs.Reduce.{reduceFrom, reduceOf}
-use Rattle.range_telling.specs.Tell.{turnValue, turnSample, tellLine, firstDiffer, tellMasks, tellBounds, tellReduced, tellingOf}
+use Rattle.range_telling.specs.Telling.{turnValue, turnSample, tellLine, firstDiffer, tellMasks, tellBounds, tellReduced, rangeTelling}
 use Rattle.notice.specs.Text as text
-use Rattle.notice.specs.Findings.{termFinding, rangeFinding, findingOf, sharedLines, slotLines}
+use Rattle.notice.specs.Findings.{sharedLines, slotLines}
 use Rattle.notice.specs.Notice.{linesFrom, sectionsLines, noticeLines, noticeText}
 
 -- a sheet of these terms and ranges, and a record of a slot, a label and numbers
@@ -101,5 +104,5 @@ allGive [] = true
 allGive (p ∷ ps) = same (noticeText (p .old) (p .new)) (p .text) && allGive ps
 
 pub notices-hold : T (allGive pairs)
-unfolding allGive pairs pair sheetOf recordOf doorlock doorlk left right line TERM RANG NAME NEW GONE WORD ALTR4 fieldBytes render joined parse sectionsFrom recordsFrom rowOf descriptionSize mostOf find same u32At noticeText noticeLines sectionsLines linesFrom slotLines sharedLines findingOf termFinding rangeFinding text.render text.renderAll leastTelling trailingZeros tellingOf tellReduced tellBounds tellMasks firstDiffer tellLine turnSample turnValue reduceOf reduceFrom gathered scattered dropLowest flipLine rangeHit
+unfolding allGive pairs pair sheetOf recordOf doorlock doorlk left right line TERM RANG NAME NEW GONE WORD ALTR4 fieldBytes render joined parse sectionsFrom recordsFrom kindOf descriptionSize mostOf find same u32At noticeText noticeLines sectionsLines linesFrom slotLines sharedLines nameOf changeOf term-kind.telling range-telling-kind.telling text.render text.renderAll termTelling trailingZeros rangeTelling tellReduced tellBounds tellMasks firstDiffer tellLine turnSample turnValue reduceOf reduceFrom gathered scattered dropLowest flipLine rangeHit
 notices-hold = tt

@@ -1,32 +1,48 @@
--- 01's greatest lengths, each reached. Assumes nothing.
+-- The greatest lengths, each reached, and that each is room enough. Assumes nothing.
 use Prim.Native.Nat.{ℕ, zero, suc, _+_, _≤_}
-use mathlib.Core.Path.{_≡_, refl}
+use mathlib.Core.Path.{_≡_, refl, _∙_}
 use mathlib.Core.List.{List, [], _∷_, _++_}
+use native.Mathlib.Omega.{arith}
+use borrow.Author.Tests.{le-leb}
 use lib.Count.{ones, trailingZeros}
 use lib.ListN.{length, take, replicate}
-use Rattle.buffer.specs.Bytes.{u32At, allWithin}
+use Rattle.buffer.specs.Bytes.{Bytes, u32At, allWithin}
+use Rattle.buffer.specs.Room.{Delivered}
+use Rattle.buffer.specs.declared.Outcome.{Outcome}
+use Rattle.buffer.specs.declared.Outcome.the-variants as Outcome
+use Rattle.buffer.proofs.Writing.{answered}
 use Rattle.buffer.specs.declared.Verdict.the-variants.{Accepted}
 use Rattle.lines.specs.Line.{flipLine, overLines}
 use Rattle.lines.specs.Gather.{gathered, scattered, dropLowest}
-use Rattle.lines.specs.Same.{same}
-use Rattle.records.specs.Sections.{labelSize, fieldBytes, noFault, rangeFaultOf, edgeFaultOf, sumFaultOf, rowOf, mostOf, descriptionSize, descriptionFault}
+use Rattle.buffer.specs.Same.{same}
+use Rattle.records.specs.Sections.{labelSize, fieldBytes, kindOf, mostOf, descriptionSize, descriptionFault}
 use Rattle.sheet.specs.Reading.{recordFault, recordsVerdict, countVerdict, sectionVerdict, sectionsVerdict, verdict}
 use Rattle.records.specs.Records.{recordsFrom, find}
 use Rattle.sheet.specs.Parsed.{joined, render, sectionsFrom, parse}
 use Rattle.sheet.proofs.Examples.{full}
 use Rattle.sheet.proofs.Theorems as sheet
-use Rattle.term.specs.Telling.{leastTelling}
+use Rattle.term.specs.Telling.{termTelling}
 use Rattle.range.specs.Rule.{rangeFault, rangeHit}
 use Rattle.range_telling.specs.Reduce.{reduceFrom, reduceOf}
-use Rattle.range_telling.specs.Tell.{turnValue, turnSample, tellLine, firstDiffer, tellMasks, tellBounds, tellReduced, tellingOf}
+use Rattle.range_telling.specs.Telling.{turnValue, turnSample, tellLine, firstDiffer, tellMasks, tellBounds, tellReduced, rangeTelling}
 use Rattle.edge.specs.Telling.{without, tellBy}
-use Rattle.sum.specs.Operation.{codesAccepted}
 use Rattle.notice.specs.Text as text
-use Rattle.notice.specs.Findings.{termFinding, rangeFinding, edgeFinding, sumFinding, findingOf, sharedLines, slotLines}
-use Rattle.notice.specs.Notice.{linesFrom, sectionsLines, noticeLines, noticeText}
-use Rattle.compiler.specs.Stream.{streamOf}
+use Rattle.notice.specs.Findings.{sharedLines, slotLines}
+use Rattle.notice.specs.Notice.{linesFrom, sectionsLines, noticeLines, noticeText, NoticeGiven}
+use Rattle.notice.specs.declared.Noticed.{Noticed}
+use Rattle.notice.specs.declared.Noticed.the-variants as Noticed
+use Rattle.compiler.specs.Stream.{streamOf, compiled}
+use Rattle.reader.specs.Judging.{streamVerdict}
+use Rattle.reader.specs.Back.{sheetIn, readBack}
+use Rattle.reader.proofs.Theorems as reader
 use Rattle.compiler.proofs.Theorems as compiler
-use Rattle.demands.proofs.NoticeLists.{at-most-1756}
+use Rattle.notice.proofs.Lengths as notice
+use Rattle.kinds.specs.Table.{nameOf, changeOf}
+use Rattle.range_telling.specs.Description as range-telling-kind
+use Rattle.edge.specs.Description as edge-kind
+use Rattle.term.specs.Description as term-kind
+use Rattle.range.specs.Description as range-kind
+use Rattle.sum.specs.Description as sum-kind
 
 -- n records from slot s on, each with this label byte throughout and this description
 slots : (n s label : ℕ) (d : List ℕ) → List (List ℕ)
@@ -52,26 +68,26 @@ newer =
     ∷ slots 48 0 0x21 (replicate 11 1)
     ∷ [])
 
--- 01: "The notice has at most 1,756 bytes", and one of two accepted sheets does
+-- no notice is longer than 1,756 bytes, and one of two accepted sheets is as long [N11]
 pub longest-notice : (old new : List ℕ) → length (noticeText old new) ≤ 1756
-longest-notice = at-most-1756
+longest-notice = notice.at-most
 
 pub longest-notice-reached : length (noticeText older newer) ≡ 1756
-unfolding fieldBytes slots older newer render joined parse sectionsFrom recordsFrom rowOf descriptionSize mostOf find same u32At noticeText noticeLines sectionsLines linesFrom slotLines sharedLines findingOf termFinding rangeFinding edgeFinding sumFinding text.render text.renderAll leastTelling trailingZeros tellingOf tellReduced tellBounds tellMasks firstDiffer tellLine turnSample turnValue reduceOf reduceFrom gathered scattered dropLowest flipLine rangeHit tellBy without
+unfolding fieldBytes slots older newer render joined parse sectionsFrom recordsFrom kindOf descriptionSize mostOf find same u32At noticeText noticeLines sectionsLines linesFrom slotLines sharedLines nameOf changeOf term-kind.telling range-telling-kind.telling edge-kind.telling text.render text.renderAll termTelling trailingZeros rangeTelling tellReduced tellBounds tellMasks firstDiffer tellLine turnSample turnValue reduceOf reduceFrom gathered scattered dropLowest flipLine rangeHit tellBy without
 longest-notice-reached = refl
 
 pub longest-notice-sheets : (verdict older ≡ Accepted) × (verdict newer ≡ Accepted)
-unfolding fieldBytes slots older newer render joined rowOf descriptionSize mostOf descriptionFault noFault rangeFaultOf edgeFaultOf sumFaultOf u32At allWithin rangeFault ones overLines codesAccepted recordFault recordsVerdict countVerdict sectionVerdict sectionsVerdict verdict
+unfolding fieldBytes slots older newer render joined kindOf descriptionSize mostOf descriptionFault term-kind.fault range-kind.fault edge-kind.fault sum-kind.fault u32At allWithin rangeFault ones overLines recordFault recordsVerdict countVerdict sectionVerdict sectionsVerdict verdict
 longest-notice-sheets = (refl, refl)
 
--- 01: "The longest sheet has 1,218 bytes"
+-- no accepted sheet is longer than 1,218 bytes, and one is as long [S8]
 pub longest-sheet : (s : List ℕ) → verdict s ≡ Accepted → length s ≤ 1218
 longest-sheet = sheet.at-most
 
 pub longest-sheet-reached : (verdict full ≡ Accepted) × (length full ≡ 1218)
 longest-sheet-reached = sheet.one-has
 
--- 01: "A full sheet makes 2,360 bytes, the most there can be"
+-- no sheet makes more than 2,360 bytes of commands, and a full one makes as many [W18]
 pub most-commands : (s : List ℕ) → verdict s ≡ Accepted → length (streamOf (parse s)) ≤ 2360
 most-commands = compiler.at-most
 
@@ -81,3 +97,24 @@ most-commands-reached = compiler.full-has
 -- a program that reads this much of a file judges all of it
 pub enough-of-a-sheet : (s : List ℕ) → verdict (take 1219 s) ≡ verdict s
 enough-of-a-sheet = sheet.enough
+
+-- ---- room enough, whatever is handed in: what is refused needs none (Demand1), what is accepted is written [A9]
+
+-- 2,360 bytes for every sheet that is compiled [A9, W18]
+pub room-for-every-stream : (s room : List ℕ) (r : Outcome) (room′ : List ℕ) → 2360 ≤ length room → Delivered (compiled s) room r room′
+    → verdict s ≡ Accepted → r ≡ Outcome.Done (length (streamOf (parse s)))
+room-for-every-stream s room r room′ fits d ok =
+    compiler.accepted-written s room r room′ ok (omega (arith, fits, compiler.at-most s ok)) d .0
+
+-- 1,218 for every stream that is read [A9, S8]
+pub room-for-every-sheet : (stream room : List ℕ) (r : Outcome) (room′ : List ℕ) → Bytes stream → 1218 ≤ length room
+    → Delivered (readBack stream) room r room′ → streamVerdict stream ≡ Accepted → r ≡ Outcome.Done (length (render (sheetIn stream)))
+room-for-every-sheet stream room r room′ b fits d ok =
+    let back = render (sheetIn stream) in
+    answered back room r room′ (omega (arith, fits, sheet.at-most back (reader.read-accepted stream b ok))) (rw ok at d)
+
+-- 1,756 for every notice [A9, N11]
+pub room-for-every-notice : (old new out : List ℕ) (r : Noticed) (out′ : List ℕ) → 1756 ≤ length out → NoticeGiven old new out r out′
+    → verdict old ≡ Accepted → verdict new ≡ Accepted → r ≡ Noticed.Done (length (noticeText old new))
+room-for-every-notice old new out r out′ fits g a e =
+    g .answer ∙ simp (a, e, le-leb (length (noticeText old new)) (length out) (omega (arith, fits, notice.at-most old new)))

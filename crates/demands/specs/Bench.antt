@@ -1,20 +1,20 @@
--- The bench examples that 01 marks P, as one table (01, "Bench examples").
+-- The examples that the rules mark as proved in one table.
 use mathlib.Core.Bool.{Bool, true, false, _&&_, Bool·beq}
 use mathlib.Core.List.{List, [], _∷_, _++_}
 use Prim.Native.Nat.{ℕ}
 use lib.Dec.{eqb}
 use lib.ListN.{replicate}
 use Rattle.lines.specs.Gather.{gathered}
-use Rattle.lines.specs.Same.{same}
+use Rattle.buffer.specs.Same.{same}
 use Rattle.lut.specs.declared.Telling.{Telling}
-use Rattle.lut.specs.declared.Telling.the-variants.{Alike, One, Two}
+use Rattle.lut.specs.declared.Telling.the-variants.{Alike, Apart}
 use Rattle.term.specs.Words.{termWords}
 use Rattle.range.specs.Rule.{rangeHit, rangeFault}
 use Rattle.range.specs.Words.{sentWords}
-use Rattle.range_telling.specs.Tell.{tellingOf}
-use Rattle.edge.specs.Chain.{edgeWords}
+use Rattle.range_telling.specs.Telling.{rangeTelling}
+use Rattle.edge.specs.Words.{edgeWords}
 
--- what an example says
+-- what an example says [K5]
 pub data Example : Type 0 where
   -- these are the words of a pattern, of a range, of an edge
   pattern : (target mask : ℕ) → List ℕ → Example
@@ -29,11 +29,12 @@ pub data Example : Type 0 where
   -- WORD: no sample tells these two ranges apart
   word : (lower upper mask lower′ upper′ mask′ : ℕ) → Example
 
+-- no sample tells the two apart [E7]
 abbrev pub isAlike : Telling → Bool
 isAlike Alike = true
-isAlike (One sample) = false
-isAlike (Two earlier later) = false
+isAlike (Apart input) = false
 
+-- whether what an example says is so, by the definitions of the calls [K5]
 unfoldable pub holds : Example → Bool
 holds (pattern target mask words) = same (termWords target mask) words
 holds (range lower upper mask words) = same (sentWords lower upper mask) words
@@ -43,16 +44,18 @@ holds (gathers mask sample number) = eqb (gathered 32 sample mask) number
 holds (refused lower upper mask number) = eqb (rangeFault lower upper mask) number
 holds (word lower upper mask lower′ upper′ mask′) =
     isAlike
-    (tellingOf (record { lower = lower; upper = upper; mask = mask }) (record { lower = lower′; upper = upper′; mask = mask′ }))
+    (rangeTelling (record { lower = lower; upper = upper; mask = mask }) (record { lower = lower′; upper = upper′; mask = mask′ }))
 
+-- whether all of them are so [K5]
 unfoldable pub allHold : List Example → Bool
 allHold [] = true
 allHold (e ∷ es) = holds e && allHold es
 
--- so many words FFFFFFFF, and then these
+-- so many words 0xFFFFFFFF, and then these [E1, E3]
 abbrev pub after : (n : ℕ) → List ℕ → List ℕ
 after n words = replicate n 0xFFFFFFFF ++ words
 
+-- the table [E1, E2, E3, E4, E5, E6, E7, E8, K5]
 unfoldable pub bench : List Example
 bench =
     pattern 5 0xF (after 3 (0xFFFF0020 ∷ []))

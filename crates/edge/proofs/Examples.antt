@@ -1,11 +1,12 @@
--- The worked examples of 01 that are to be proved ("Bench examples"), as one table of computed and expected numbers. Assumes nothing.
+-- The examples on edges, as one table of computed and expected numbers [E8]. Assumes nothing.
 use Prim.Native.Nat.{ℕ, _^_}
 use mathlib.Core.Path.{_≡_, refl}
 use mathlib.Core.Bool.{Bool, true, _&&_}
 use mathlib.Core.List.{List, [], _∷_}
 use lib.Dec.{eqb}
 use lib.ListN.{getD}
-use Rattle.edge.specs.Chain.{pairTable, wordsFrom, edgeWords}
+use Rattle.lut.specs.Table.{down}
+use Rattle.edge.specs.Words.{pairTable, edgeWords}
 
 pub record Example : Type 0 where
   pub computed : ℕ
@@ -24,5 +25,5 @@ allAsExpected [] = true
 allAsExpected (x ∷ xs) = eqb (x .computed) (x .expected) && allAsExpected xs
 
 pub examples-hold : allAsExpected examples ≡ true
-unfolding wordsFrom pairTable
+unfolding down pairTable
 examples-hold = refl

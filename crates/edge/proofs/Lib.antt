@@ -1,11 +1,12 @@
 pub mod Pair
-pub mod Words
+pub mod WordLaws
 pub mod Bits
-pub mod Hit
+pub mod Hits
 pub mod Wish
-pub mod Back
+pub mod ReadingBack
 pub mod TellLine
 pub mod TellApart
 pub mod TellWalk
 pub mod Theorems
 pub mod Examples
+pub mod Ways

@@ -1,5 +1,6 @@
--- One table of two lines, over all eight wishes of each line: it answers 1 exactly where one of the two lines has an asked-for event, it has
--- sixteen bits, and what accepted lines ask for can be read off it. Each is one computed test over the lines' digits. Assumes nothing.
+-- One table of two lines, over all eight wishes of each line: it answers 1 exactly where one of the two lines has an
+-- asked-for event, it has sixteen bits, and what accepted lines ask for can be read off it. Each is one computed test
+-- over the lines' digits, the same for all sixteen tables [K6]. Assumes nothing.
 use Prim.Native.Nat.{ℕ, _+_, _*_, _/_, _%_, _^_, _<_}
 use mathlib.Core.Path.{_≡_, refl}
 use mathlib.Core.Bool.{Bool, true, not, _&&_, _||_, Bool·beq}
@@ -18,9 +19,9 @@ use Rattle.edge.specs.declared.Edge.{Edge}
 use Rattle.edge.specs.declared.Event.{Event}
 use Rattle.edge.specs.declared.Event.the-variants.{Rise, Fall, Neither}
 use Rattle.edge.specs.Rule.{lineHit, lineAccepted}
-use Rattle.edge.specs.Chain.{lowerTable, upperTable, askedTable, pairTable}
+use Rattle.edge.specs.Words.{lowerTable, upperTable, askedTable, pairTable}
 use Rattle.edge.specs.Model.{address, tableHit}
-use Rattle.edge.specs.Reading.{covers}
+use Rattle.edge.specs.Back.{covers}
 use Rattle.edge.specs.Telling.{asked}
 
 -- two lines by a shift, and the address they make

@@ -10,13 +10,16 @@ use lib.Dec.{eqb}
 use Rattle.lines.specs.Line.{line}
 use Rattle.lines.proofs.Over.{every-at, any-more, any-none, not-every, none-set}
 use Rattle.lut.specs.declared.Telling.{Telling}
-use Rattle.lut.specs.declared.Telling.the-variants.{Alike, One, Two}
-use Rattle.lut.specs.Telling.{HitAlike₂, SaysTwo}
+use Rattle.lut.specs.declared.Telling.the-variants.{Alike, Apart}
+use Rattle.lut.specs.Input.{Fits}
+use Rattle.lut.specs.Telling.{HitAlike, Says}
+use Rattle.lut.specs.declared.Input.the-variants.{Samples}
+use Rattle.lut.proofs.Asked.{alike-on-pairs}
 use Rattle.edge.specs.declared.Edge.{Edge}
 use Rattle.edge.specs.declared.Event.{Event}
 use Rattle.edge.specs.declared.Event.the-variants.{Rise, Fall, Neither}
-use Rattle.edge.specs.Rule.{lineAccepted}
-use Rattle.edge.specs.Telling.{hits, AcceptedEdge, asked, without, earlierOf, laterOf, tellBy, tellOne, orElse, tellingEdge}
+use Rattle.edge.specs.Rule.{lineAccepted, hitOf, hit, Accepted}
+use Rattle.edge.specs.Telling.{asked, without, earlierOf, laterOf, tellBy, tellOne, orElse, edgeTelling}
 use Rattle.edge.proofs.Pair.{lineOf}
 use Rattle.edge.proofs.Bits.{without-lt}
 use Rattle.edge.proofs.TellLine.{hitsLine, line-tells}
@@ -27,7 +30,7 @@ unfolding without
 without-none a b e =
     omega (arith, xor-add-and a (bitAnd a b), and-le-l a (bitAnd a b), and-le-r a (bitAnd a b), and-le-l a b, and-le-r a b)
 
-asked-lt : (t : Event) (d : Edge) → AcceptedEdge d → asked t d < 2 ^ 32
+asked-lt : (t : Event) (d : Edge) → Accepted d → asked t d < 2 ^ 32
 asked-lt Rise d h = h .rise-fits
 asked-lt Fall d h = h .fall-fits
 asked-lt Neither d h = h .neither-fits
@@ -52,10 +55,9 @@ module _ (d r n : ℕ) (hd : d < 2 ^ 32) (hr : r < 2 ^ 32) (hn : n < 2 ^ 32) whe
 -- what an answer to "what does a ask for that b does not" says: the samples make a hit and b miss, or there is no such thing
 Tells : Edge → Edge → Telling → Type 0
 Tells a b Alike = (t : Event) → asked t a ≤ asked t b
-Tells a b (One sample) = ⊥
-Tells a b (Two e l) = (hits a e l ≡ true) × (hits b e l ≡ false) × (e < 2 ^ 32) × (l < 2 ^ 32)
+Tells a b (Apart i) = (hit a i ≡ true) × (hit b i ≡ false) × Fits i
 
-module _ (a b : Edge) (p : AcceptedEdge a) (q : AcceptedEdge b) where
+module _ (a b : Edge) (p : Accepted a) (q : Accepted b) where
   module _ (t : Event) where
     -- the lines that show the event, and the samples
     d : ℕ
@@ -79,25 +81,27 @@ module _ (a b : Edge) (p : AcceptedEdge a) (q : AcceptedEdge b) where
     unfolding d
     d-lt = without-lt 32 (asked t a) (asked t b) (asked-lt t a p) (asked-lt t b q)
 
-    a-hits : eqb d 0 ≡ false → hits a e l ≡ true
+    a-hits : eqb d 0 ≡ false → hitOf a e l ≡ true
     a-hits none =
         any-more 32 (λ i. not (eqb (line d i) 0)) _ (λ i h g. each-line i h .1 (not-true (eqb (line d i) 0) g))
         (sym (not-every 32 (λ i. eqb (line d i) 0)) ∙ ap not (sym (none-set 32 d d-lt) ∙ none))
 
-    b-misses : hits b e l ≡ false
+    b-misses : hitOf b e l ≡ false
     b-misses = any-none 32 _ (λ i h. each-line i h .0)
 
     step : (others : Telling) → (asked t a ≤ asked t b → Tells a b others) → Tells a b (tellBy t a b others)
     unfolding tellBy d e l Tells
     step others rest = go (eqb d 0) refl
       where
-        go : (none : Bool) → eqb d 0 ≡ none → Tells a b (cond none others (Two e l))
+        go : (none : Bool) → eqb d 0 ≡ none → Tells a b (cond none others (Apart (Samples e l)))
         go true z = rest (without-none (asked t a) (asked t b) (eqb-true d 0 z))
         go false z = (
           a-hits z,
           b-misses,
-          earlier-lt d (b .rise) (b .neither) d-lt (q .rise-fits) (q .neither-fits) t,
-          later-lt d (b .rise) (b .neither) d-lt (q .rise-fits) (q .neither-fits) t,
+          (
+            earlier-lt d (b .rise) (b .neither) d-lt (q .rise-fits) (q .neither-fits) t,
+            later-lt d (b .rise) (b .neither) d-lt (q .rise-fits) (q .neither-fits) t,
+          ),
         )
 
   one-tells : Tells a b (tellOne a b)
@@ -115,43 +119,32 @@ both-ways : (a b : Edge) → ((t : Event) → asked t a ≤ asked t b) → ((t :
     → (a .rise ≡ b .rise) × (a .fall ≡ b .fall) × (a .neither ≡ b .neither)
 both-ways a b x y = (omega (arith, x Rise, y Rise), omega (arith, x Fall, y Fall), omega (arith, x Neither, y Neither))
 
-same-hits : (a b : Edge) → (a .rise ≡ b .rise) × (a .fall ≡ b .fall) × (a .neither ≡ b .neither) → HitAlike₂ (hits a) (hits b)
-same-hits a b (p, q, s) e l he hl = cc
+same-hits : (a b : Edge) → (a .rise ≡ b .rise) × (a .fall ≡ b .fall) × (a .neither ≡ b .neither) → HitAlike (hit a) (hit b)
+same-hits a b (p, q, s) = alike-on-pairs (hitOf a) (hitOf b) (λ e l he hl. cc)
 
 not-alike : (x y : Bool) → x ≡ true → y ≡ false → x ≡ y → ⊥
 not-alike x y p q s = true≢false (sym p ∙ s ∙ q)
 
-module _ (a b : Edge) (p : AcceptedEdge a) (q : AcceptedEdge b) where
-  pub telling-says : SaysTwo (hits a) (hits b) (tellingEdge a b)
+module _ (a b : Edge) (p : Accepted a) (q : Accepted b) where
+  pub telling-says : Says (hit a) (hit b) (edgeTelling a b)
   unfolding Tells
   telling-says = first (tellOne a b) (one-tells a b p q)
     where
-      second : ((t : Event) → asked t a ≤ asked t b) → (x : Telling) → Tells b a x → SaysTwo (hits a) (hits b) x
+      second : ((t : Event) → asked t a ≤ asked t b) → (x : Telling) → Tells b a x → Says (hit a) (hit b) x
       second le Alike w = same-hits a b (both-ways a b le w)
-      second le (One s) w = w
-      second le (Two e l) w = record {
-        fits-earlier = w .2;
-        fits-later = w .3;
-        tells = λ s. not-alike (hits b e l) (hits a e l) (w .0) (w .1) (sym s);
-      }
+      second le (Apart i) w = record { fits = w .2; tells = λ s. not-alike (hit b i) (hit a i) (w .0) (w .1) (sym s) }
 
-      first : (x : Telling) → Tells a b x → SaysTwo (hits a) (hits b) (orElse x (tellOne b a))
+      first : (x : Telling) → Tells a b x → Says (hit a) (hit b) (orElse x (tellOne b a))
       first Alike w = second w (tellOne b a) (one-tells b a q p)
-      first (One s) w = w
-      first (Two e l) w = record {
-        fits-earlier = w .2;
-        fits-later = w .3;
-        tells = not-alike (hits a e l) (hits b e l) (w .0) (w .1);
-      }
+      first (Apart i) w = record { fits = w .2; tells = not-alike (hit a i) (hit b i) (w .0) (w .1) }
 
   -- descriptions that hit alike are the same
-  pub alike-same : HitAlike₂ (hits a) (hits b) → (a .rise ≡ b .rise) × (a .fall ≡ b .fall) × (a .neither ≡ b .neither)
+  pub alike-same : HitAlike (hit a) (hit b) → (a .rise ≡ b .rise) × (a .fall ≡ b .fall) × (a .neither ≡ b .neither)
   unfolding Tells
   alike-same alike =
       both-ways a b (less a b alike (tellOne a b) (one-tells a b p q))
-      (less b a (λ e l x y. sym (alike e l x y)) (tellOne b a) (one-tells b a q p))
+      (less b a (λ i x. sym (alike i x)) (tellOne b a) (one-tells b a q p))
     where
-      less : (x y : Edge) → HitAlike₂ (hits x) (hits y) → (found : Telling) → Tells x y found → (t : Event) → asked t x ≤ asked t y
+      less : (x y : Edge) → HitAlike (hit x) (hit y) → (found : Telling) → Tells x y found → (t : Event) → asked t x ≤ asked t y
       less x y alike Alike w = w
-      less x y alike (One s) w = absurd w
-      less x y alike (Two e l) w = absurd (not-alike (hits x e l) (hits y e l) (w .0) (w .1) (alike e l (w .2) (w .3)))
+      less x y alike (Apart i) w = absurd (not-alike (hit x i) (hit y i) (w .0) (w .1) (alike i (w .2)))

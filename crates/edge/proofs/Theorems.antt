@@ -1,74 +1,81 @@
--- What is promised of edges, each under the demand that asks for it. Assumes nothing.
-use Prim.Native.Nat.{ℕ, _^_, _<_}
+-- What is promised of edges. Assumes nothing.
+use Prim.Native.Nat.{ℕ}
 use mathlib.Core.Path.{_≡_, refl, sym, ap, _∙_}
-use mathlib.Core.List.{List}
-use lib.ListN.{length, getD}
-use Rattle.lut.specs.declared.Telling.{Telling}
-use Rattle.lut.specs.declared.Telling.the-variants.{Alike, One, Two}
+use mathlib.Core.List.{List, [], _∷_}
+use mathlib.Core.Logic.{_↔_}
+use native.Mathlib.Omega.{arith}
+use lib.Dec.{lit<}
+use lib.ListN.{length}
+use Rattle.buffer.specs.Bytes.{Bytes}
+use Rattle.buffer.specs.Fields.{fieldBytes}
+use Rattle.buffer.proofs.FieldLaws.{fields-read, fields-written, fit₃, same₃}
+use Rattle.edge.specs.Description.{size, fromBytes, toBytes}
 use Rattle.lut.specs.Answer.{hitOrMiss}
-use Rattle.lut.specs.Telling.{HitAlike₂, SaysTwo}
+use Rattle.lut.specs.Telling.{HitAlike, Says}
+use Rattle.lut.specs.declared.Input.the-variants.{Samples}
+use Rattle.lut.proofs.Asked.{alike-on-pairs}
 use Rattle.lut.proofs.Runs.{run-needed}
 use Rattle.edge.specs.declared.Edge.{Edge}
+use Rattle.edge.specs.declared.ReadEdge.{ReadEdge}
 use Rattle.edge.specs.declared.ReadEdge.the-variants as ReadEdge
-use Rattle.edge.specs.Rule.{edgeHit, Accepted}
-use Rattle.edge.specs.Chain.{edgeWords}
+use Rattle.edge.specs.Rule.{hitOf, hit, Accepted}
+use Rattle.edge.specs.Words.{wordsOf}
 use Rattle.edge.specs.Model.{wordsHit, runEdge}
-use Rattle.edge.specs.Reading.{WrittenBy, readEdge}
-use Rattle.edge.specs.Telling.{hits, AcceptedEdge, tellingEdge}
-use Rattle.edge.proofs.Words.{words-length, words-lt}
-use Rattle.edge.proofs.Hit.{model-law}
-use Rattle.edge.proofs.Back as back
-use Rattle.edge.proofs.TellApart.{telling-says, alike-same}
+use Rattle.edge.specs.Back.{readEdge, SaysEdge}
+use Rattle.edge.specs.Telling.{edgeTelling}
+use Rattle.edge.proofs.WordLaws.{words-length}
+use Rattle.edge.proofs.Hits.{model-law}
+use Rattle.edge.proofs.ReadingBack.{read-written, read-says}
+use Rattle.edge.proofs.TellApart as apart
 
--- "those words run in the table and carry model hit exactly when the plain rule for .. edge says so" (demand 2)
-pub words-hit-by-the-rule : (rise fall neither earlier later : ℕ)
-    → wordsHit (edgeWords rise fall neither) earlier later ≡ edgeHit rise fall neither earlier later
-words-hit-by-the-rule = model-law
+-- over an edge's words the model hits exactly when the plain rule does [D2.4]
+pub run-hits : (d : Edge) (earlier later : ℕ) → runEdge (wordsOf d) earlier later ≡ hitOrMiss (hit d (Samples earlier later))
+run-hits d e l =
+    run-needed 8 (wordsOf d) _ _ (words-length (d .rise) (d .fall) (d .neither)) (model-law (d .rise) (d .fall) (d .neither) e l)
 
--- the same of the call
-pub run-hits-by-the-rule : (rise fall neither earlier later : ℕ)
-    → runEdge (edgeWords rise fall neither) earlier later ≡ hitOrMiss (edgeHit rise fall neither earlier later)
-run-hits-by-the-rule r f n e l = run-needed 8 (edgeWords r f n) _ _ (words-length 8 r f n) (model-law r f n e l)
+-- an accepted edge's words are read as that edge [C5, D2.5]
+pub words-read-back : (d : Edge) → Accepted d → readEdge (wordsOf d) ≡ ReadEdge.Edge (d .rise) (d .fall) (d .neither)
+words-read-back d = read-written (d .rise) (d .fall) (d .neither)
 
--- "Reading the commands back gives the sheet" (demand 2)
-pub read-gives-back : (rise fall neither : ℕ) → Accepted rise fall neither → readEdge (edgeWords rise fall neither) ≡ ReadEdge.Edge rise fall neither
-read-gives-back = back.read-written
-
--- "accepted exactly if some accepted sheet writes it" (demand 2)
-pub read-exactly : (words : List ℕ) (rise fall neither : ℕ)
-    → (readEdge words ≡ ReadEdge.Edge rise fall neither → WrittenBy words rise fall neither)
-    × (WrittenBy words rise fall neither → readEdge words ≡ ReadEdge.Edge rise fall neither)
-read-exactly ws r f n =
-    (λ e. rw e at (back.read-says ws), λ w. ap readEdge (w .written) ∙ back.read-written r f n (w .accepted))
-
--- "Two edges have equal chain words exactly when they hit alike on every input." (demand 3)
-pub equal-words-hit-alike : (a b : Edge) → AcceptedEdge a → AcceptedEdge b
-    → (edgeWords (a .rise) (a .fall) (a .neither) ≡ edgeWords (b .rise) (b .fall) (b .neither) → HitAlike₂ (hits a) (hits b))
-    × (HitAlike₂ (hits a) (hits b) → edgeWords (a .rise) (a .fall) (a .neither) ≡ edgeWords (b .rise) (b .fall) (b .neither))
-equal-words-hit-alike a b p q = (
-  λ w e l he hl.
-      sym (model-law (a .rise) (a .fall) (a .neither) e l) ∙ ap (λ (ws : List ℕ). wordsHit ws e l) w
-      ∙ model-law (b .rise) (b .fall) (b .neither) e l,
-  λ alike. let (x, y, z) = alike-same a b p q alike in cc,
-)
-
--- "an alteration line .. exactly when some input tells the two apart, and that line shows one that does" (demand 3)
-pub telling-tells : (a b : Edge) → AcceptedEdge a → AcceptedEdge b
-    → SaysTwo (hits a) (hits b) (tellingEdge a b)
-telling-tells = telling-says
-
-pub telling-alike-exactly : (a b : Edge) → AcceptedEdge a → AcceptedEdge b
-    → (tellingEdge a b ≡ Alike → HitAlike₂ (hits a) (hits b)) × (HitAlike₂ (hits a) (hits b) → tellingEdge a b ≡ Alike)
-telling-alike-exactly a b p q = (λ e. rw e at (telling-says a b p q), λ alike. go alike (tellingEdge a b) refl (telling-says a b p q))
+-- words are refused unless an accepted edge writes them [C5, F16, D2.6]
+pub accepted-iff-written : (words : List ℕ) → (readEdge words ≡ ReadEdge.Refused → ⊥) ↔ ((d : Edge) × (Accepted d × (words ≡ wordsOf d)))
+accepted-iff-written ws = (λ n. go (readEdge ws) n (read-says ws), back)
   where
-    go : HitAlike₂ (hits a) (hits b) → (x : Telling) → tellingEdge a b ≡ x → SaysTwo (hits a) (hits b) x → tellingEdge a b ≡ Alike
-    go alike Alike e w = e
-    go alike (One s) e w = absurd w
-    go alike (Two x y) e w = absurd (w .tells (alike x y (w .fits-earlier) (w .fits-later)))
+    go : (x : ReadEdge) → (x ≡ ReadEdge.Refused → ⊥) → SaysEdge ws x → (d : Edge) × (Accepted d × (ws ≡ wordsOf d))
+    go (ReadEdge.Edge rise fall neither) n says = (record { rise = rise; fall = fall; neither = neither }, (says .accepted, says .written))
+    go ReadEdge.Refused n says = absurd (n refl)
 
--- what the crates above need of the words: there are eight, of 32 bits each
-pub edge-words-length : (rise fall neither : ℕ) → length (edgeWords rise fall neither) ≡ 8
-edge-words-length = words-length 8
+    back : ((d : Edge) × (Accepted d × (ws ≡ wordsOf d))) → readEdge ws ≡ ReadEdge.Refused → ⊥
+    back (d, (a, w)) e =
+        let x : ReadEdge.Edge (d .rise) (d .fall) (d .neither) ≡ ReadEdge.Refused = sym (ap readEdge w ∙ words-read-back d a) ∙ e in
+        let z : _≡_ {A = ℕ} 0 1 = cc in
+        omega arith
 
-pub edge-words-fit : (rise fall neither i : ℕ) → getD (edgeWords rise fall neither) i 0 < 2 ^ 32
-edge-words-fit = words-lt 8
+module _ (a b : Edge) (p : Accepted a) (q : Accepted b) where
+  -- two edges have the same chain words exactly when no two samples tell them apart [D3.2]
+  pub equal-words-iff-alike : (wordsOf a ≡ wordsOf b) ↔ HitAlike (hit a) (hit b)
+  equal-words-iff-alike = (
+    λ w. alike-on-pairs (hitOf a) (hitOf b)
+        (λ e l he hl.
+        sym (model-law (a .rise) (a .fall) (a .neither) e l) ∙ ap (λ (ws : List ℕ). wordsHit ws e l) w
+        ∙ model-law (b .rise) (b .fall) (b .neither) e l),
+    λ alike. let (x, y, z) = apart.alike-same a b p q alike in cc,
+  )
+
+  -- the samples that are shown tell the two apart; none are shown where none do [D3.6, N6]
+  pub telling-says : Says (hit a) (hit b) (edgeTelling a b)
+  telling-says = apart.telling-says a b p q
+
+-- from bytes and to bytes are inverse
+pub bytes-inverse : (d : List ℕ) → Bytes d → length d ≡ size → toBytes (fromBytes d) ≡ d
+unfolding fieldBytes
+bytes-inverse d h l = fields-written 3 0 d h l
+
+made : (rise fall neither : ℕ) → Edge
+made rise fall neither = record { rise = rise; fall = fall; neither = neither }
+
+pub description-inverse : (e : Edge) → Accepted e → fromBytes (toBytes e) ≡ e
+unfolding made
+description-inverse e a =
+    let read = fields-read (e .rise ∷ e .fall ∷ e .neither ∷ []) (fit₃ (e .rise) (e .fall) (e .neither) (a .rise-fits) (a .fall-fits) (a .neither-fits)) in
+    same₃ made (read 0 (lit< tt)) (read 1 (lit< tt)) (read 2 (lit< tt))

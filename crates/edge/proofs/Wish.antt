@@ -15,13 +15,13 @@ use lib.Seq.{drop-cons}
 use Rattle.lines.specs.Line.{line}
 use Rattle.lines.proofs.Digit.{line-up}
 use Rattle.lines.proofs.Over.{every-at}
-use Rattle.lut.specs.Table.{high, low, oneIf}
+use Rattle.lut.specs.Table.{high, low, oneIf, down}
 use Rattle.lut.proofs.Halves.{high-half, low-half}
 use Rattle.edge.specs.declared.Edge.{Edge}
 use Rattle.edge.specs.declared.Event.{Event}
 use Rattle.edge.specs.Rule.{lineAccepted, edgeAccepted}
-use Rattle.edge.specs.Chain.{lowerTable, upperTable, pairTable, wordAt, wordsFrom, edgeWords}
-use Rattle.edge.specs.Reading.{covers, wordWish, wishFrom, wishOf}
+use Rattle.edge.specs.Words.{lowerTable, upperTable, pairTable, wordAt, edgeWords}
+use Rattle.edge.specs.Back.{covers, wordWish, wishFrom, wishOf}
 use Rattle.edge.specs.Telling.{asked}
 use Rattle.edge.proofs.Pair.{two-lines, pair-lt, pair-read}
 
@@ -75,7 +75,7 @@ module _ (t : Event) (r f n : ℕ) where
   wish = asked t (record { rise = r; fall = f; neither = n })
 
   word-read : (k : ℕ) → ((i : ℕ) → i < 4 * suc k → lineAccepted (line r i) (line f i) (line n i) ≡ true)
-      → wordWish (upperTable t) (lowerTable t) (wordAt k r f n) ≡ wish / 2 ^ (4 * k) % 16
+      → wordWish (upperTable t) (lowerTable t) (wordAt r f n k) ≡ wish / 2 ^ (4 * k) % 16
   unfolding wish
   word-read k ok =
       let upper = pairTable (2 * k + 1) r f n in
@@ -89,11 +89,11 @@ module _ (t : Event) (r f n : ℕ) where
 
   -- after the lines a, the words of the lowest 4k lines
   words-read : (k a : ℕ) → ((i : ℕ) → i < 4 * k → lineAccepted (line r i) (line f i) (line n i) ≡ true)
-      → wishFrom (upperTable t) (lowerTable t) (wordsFrom k r f n) a ≡ a * 2 ^ (4 * k) + wish % 2 ^ (4 * k)
-  unfolding wishFrom wordsFrom
+      → wishFrom (upperTable t) (lowerTable t) (down (wordAt r f n) k) a ≡ a * 2 ^ (4 * k) + wish % 2 ^ (4 * k)
+  unfolding wishFrom down
   words-read zero a ok = omega arith
   words-read (suc k) a ok =
-      ap (λ (x : ℕ). wishFrom (upperTable t) (lowerTable t) (wordsFrom k r f n) (a * 16 + x)) (word-read k ok)
+      ap (λ (x : ℕ). wishFrom (upperTable t) (lowerTable t) (down (wordAt r f n) k) (a * 16 + x)) (word-read k ok)
       ∙ words-read k (a * 16 + wish / 2 ^ (4 * k) % 16) (λ i h. ok i (omega arith))
       ∙ shift-in k a wish
 

@@ -1,18 +1,23 @@
 // Edge detectors: the plain rule, the eight chain words, the model that runs any eight words, the way back, and what tells two apart.
 // Promises: each call equals its definition in specs/; over a description's words the model hits exactly when the plain rule does (proofs/Theorems).
 // Rests on: lines (digits and computed tests), lut (tables, answers, what telling means).
-mod chain;
+mod back;
+mod description;
 mod model;
-mod reading;
 mod rule;
-mod tell;
+mod telling;
+mod words;
 
-pub use chain::edge_words;
+pub use back::read_edge;
+pub use description::fault;
+pub use description::put_back;
+pub use description::put_words;
+pub use description::telling_of;
 pub use model::run_edge;
-pub use reading::read_edge;
 pub use rule::edge_accepted;
 pub use rule::edge_hit;
-pub use tell::telling;
+pub use telling::edge_telling;
+pub use words::edge_words;
 
 // A description: the lines on which a rise, a fall, or neither of the two is asked for.
 pub struct Edge {

@@ -17,8 +17,9 @@ fn word_hit(k: u32, word: u32, earlier: u32, later: u32) -> bool
     requires { ⌜ k < 8 ⌝ }
     ensures { λ r. ⌜ r ≡ wordHit k word earlier later ⌝ }
 {
-    table_hit(2 * k + 1, word / 65536, earlier, later)
-        || table_hit(2 * k, word % 65536, earlier, later)
+    let upper = table_hit(2 * k + 1, word / 65536, earlier, later);
+    let lower = table_hit(2 * k, word % 65536, earlier, later);
+    upper || lower
 }
 
 // The model: a hit when any table of the eight words answers 1.

@@ -1,10 +1,10 @@
 -- A line is a binary digit: the laws of one line, and of a number made from its lines. Assumes nothing.
 use mathlib.Core.Path.{_≡_, refl, sym, ap, ap₂, _∙_}
 use Prim.Native.Nat.{ℕ, zero, suc, _+_, _-_, _*_, _/_, _%_, _^_, _<_}
-use native.Mathlib.Nat.{one-mul, mod-lt, two-pow-succ, zero-lt-suc, div-one, add-comm, zero-add}
+use native.Mathlib.Nat.{one-mul, mod-lt, two-pow-succ, zero-lt-suc, div-one, add-comm, zero-add, add-mul, add-assoc, mul-assoc, mul-comm}
 use native.Mathlib.Numerals.{add-one, one-add}
 use native.Mathlib.Omega.{arith}
-use lib.Bits.{bitAnd, bitOr, bitXor, and-shr, or-shr, xor-shr, and-mod, or-mod, xor-mod}
+use lib.Bits.{bitAnd, bitOr, bitXor, or-shifted-r, and-shr, or-shr, xor-shr, and-mod, or-mod, xor-mod}
 use lib.Dec.{lit<}
 use lib.Pow.{shl-exact, shr-shr, field, mod-mod-pow}
 use Rattle.lines.specs.Line.{line, fromLines}
@@ -48,6 +48,20 @@ line-xor a b i = ap (λ (x : ℕ). x % 2) (xor-shr a b i) ∙ xor-mod (a / 2 ^ i
 -- 1 << i in a word of w bits
 pub shifted-one : (i w : ℕ) → i < w → 1 * 2 ^ i % 2 ^ w ≡ 2 ^ i
 shifted-one i w h = shl-exact 1 i w (lit< tt) (omega arith) ∙ one-mul (2 ^ i)
+
+-- a bit on line i, in a word of 32 bits
+pub bit-shifted : (x i : ℕ) → i < 32 → x % 2 * 2 ^ i % 4294967296 ≡ x % 2 * 2 ^ i
+bit-shifted x i h = shl-exact 1 i 32 (bit-lt x) (omega arith)
+
+-- a bit put above the i lowest ones, in a word of 32 bits
+pub put-bit : (x bit i : ℕ) → i < 32 → bit < 2 → x < 2 ^ i → bitOr x (bit * 2 ^ i % 4294967296) ≡ bit * 2 ^ i + x
+put-bit x bit i h hb hx = ap (bitOr x) (shl-exact 1 i 32 hb (omega arith)) ∙ or-shifted-r bit i x hx
+
+-- a bit between the number above it and the number below it goes to the one below
+pub bit-down : (t b p s : ℕ) → (t * 2 + b) * p + s ≡ t * (p * 2) + (b * p + s)
+bit-down t b p s =
+    ap (λ (x : ℕ). x + s) (add-mul (t * 2) b p) ∙ add-assoc (t * 2 * p) (b * p) s
+    ∙ ap (λ (x : ℕ). x + (b * p + s)) (mul-assoc t 2 p ∙ ap (λ (x : ℕ). t * x) (mul-comm 2 p))
 
 -- the number with the given lines
 pub from-lines : (n x : ℕ) (f : ℕ → ℕ) → ((i : ℕ) → i < n → f i ≡ line x i) → x < 2 ^ n → fromLines n f ≡ x

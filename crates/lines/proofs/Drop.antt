@@ -4,7 +4,7 @@ use Prim.Native.Nat.{ℕ, zero, suc, _+_, _-_, _*_, _/_, _%_, _^_, _≤_, _<_, m
 use native.Mathlib.Nat.{zero-div, add-zero, two-pow-succ}
 use lib.Bits.{bitAnd, and-step, and-self}
 use native.Mathlib.Omega.{arith}
-use lib.Count.{onesIn}
+use lib.Count.{onesIn, trailingZeros}
 use Rattle.lines.specs.Line.{line, choose}
 use Rattle.lines.specs.Gather.{pack, gathered, scattered, dropLowest}
 use Rattle.lines.proofs.Digit.{bit-lt, line-half, line-zero}
@@ -99,6 +99,44 @@ scatter-drop (suc n) value mask h =
         ≡ scattered n (choose d value (value / 2)) (mask / 2) * 2 + choose d 0 (value % 2)
     step zero ih = ap (λ (x : ℕ). x * 2 + 0) ih
     step (suc d) ih = ap (λ (x : ℕ). scattered n (value / 2) (mask / 2) * 2 + x) (sym h)
+
+-- without a masked line there is nowhere to put a bit
+pub scatter-none : (n value : ℕ) → scattered n value 0 ≡ 0
+unfolding scattered
+scatter-none zero value = refl
+scatter-none (suc n) value = ap (λ (x : ℕ). x * 2 + 0) (scatter-none n value)
+
+-- a mask with a line has a lowest one
+pub lowest-lt : (n mask : ℕ) → 0 < mask → mask < 2 ^ n → trailingZeros n mask < n
+unfolding trailingZeros
+lowest-lt zero mask h l = absurd (omega arith)
+lowest-lt (suc n) mask h l = go (mask % 2) refl (λ p. lowest-lt n (mask / 2) p (omega (arith, two-pow-succ n)))
+  where
+    go : (d : ℕ) → mask % 2 ≡ d → (0 < mask / 2 → trailingZeros n (mask / 2) < n) → trailingZeros (suc n) mask < suc n
+    go zero e ih = rw e (let low = ih (omega arith) in omega arith)
+    go (suc zero) e ih = rw e (omega arith)
+    go (suc (suc d)) e ih = absurd (omega (arith, bit-lt mask))
+
+one-up : (x y b p : ℕ) → x ≡ y + b * p → x * 2 + 0 ≡ y * 2 + 0 + b * (p + p)
+one-up x y b p e = omega arith
+
+-- the lowest bit goes on the lowest masked line
+pub scatter-lowest : (n value mask : ℕ) → 0 < mask → mask < 2 ^ n
+    → scattered n value mask ≡ scattered n (value / 2) (dropLowest n mask) + value % 2 * 2 ^ trailingZeros n mask
+unfolding scattered dropLowest trailingZeros
+scatter-lowest zero value mask h l = absurd (omega arith)
+scatter-lowest (suc n) value mask h l =
+    let rest = choose (mask % 2) (dropLowest n (mask / 2)) (mask / 2) in
+    rw (even-mod rest, even-half rest) (go (mask % 2) refl (λ p. scatter-lowest n value (mask / 2) p (omega (arith, two-pow-succ n))))
+  where
+    go : (d : ℕ) → mask % 2 ≡ d
+        → (0 < mask / 2 → scattered n value (mask / 2) ≡ scattered n (value / 2) (dropLowest n (mask / 2)) + value % 2 * 2 ^ trailingZeros n (mask / 2))
+        → scattered n (choose (mask % 2) value (value / 2)) (mask / 2) * 2 + choose (mask % 2) 0 (value % 2)
+        ≡ scattered n (value / 2) (choose (mask % 2) (dropLowest n (mask / 2)) (mask / 2)) * 2 + 0 + value % 2 * 2 ^ trailingZeros (suc n) mask
+    go zero e ih =
+        rw (e, two-pow-succ) (one-up (scattered n value (mask / 2)) (scattered n (value / 2) (dropLowest n (mask / 2))) (value % 2) (2 ^ trailingZeros n (mask / 2)) (ih (omega arith)))
+    go (suc zero) e ih = rw e (omega arith)
+    go (suc (suc d)) e ih = absurd (omega (arith, bit-lt mask))
 
 -- a line that is still masked was masked
 pub drop-line : (n mask i : ℕ) → line (dropLowest n mask) i ≡ 1 → line mask i ≡ 1

@@ -8,4 +8,3 @@ pub mod Scattering
 pub mod Drop
 pub mod Flip
 pub mod Fill
-pub mod Compare

@@ -3,6 +3,7 @@ use mathlib.Core.Path.{_≡_, refl, sym, ap, _∙_}
 use Prim.Native.Nat.{ℕ, zero, suc, _+_, _/_, _%_, _^_, _≤_, _<_}
 use native.Mathlib.Nat.{mod-lt, two-pow-succ}
 use native.Mathlib.Numerals.{add-one}
+use native.Mathlib.Decide.{decLt}
 use native.Mathlib.Omega.{arith}
 use lib.Pow.{pow-pos, mod-mod-pow, field}
 use lib.Count.{ones, onesIn, ones-step}
@@ -18,6 +19,15 @@ pub ones-in-le : (n mask : ℕ) → onesIn n mask ≤ n
 unfolding onesIn
 ones-in-le zero mask = omega arith
 ones-in-le (suc n) mask = let ih = ones-in-le n (mask / 2) in omega arith
+
+pub ones-pos : (n mask : ℕ) → 0 < mask → mask < 2 ^ n → 0 < onesIn n mask
+unfolding onesIn
+ones-pos zero mask h l = absurd (omega arith)
+ones-pos (suc n) mask h l = go (decLt 0 (mask / 2)) (λ p. ones-pos n (mask / 2) p (omega (arith, two-pow-succ n)))
+  where
+    go : Dec (0 < mask / 2) → (0 < mask / 2 → 0 < onesIn n (mask / 2)) → 0 < mask % 2 + onesIn n (mask / 2)
+    go (yes p) ih = let some = ih p in omega arith
+    go (no q) ih = omega arith
 
 -- the masked ones of the i lowest lines, cut off
 ones-cut : (i mask : ℕ) → onesIn i (mask % 2 ^ i) ≡ onesIn i mask

@@ -1,6 +1,6 @@
 -- The laws of scattering, and of gathering what was scattered, over any number n of lines. Assumes nothing.
 use mathlib.Core.Path.{_≡_, refl, sym, ap, ap₂, _∙_}
-use Prim.Native.Nat.{ℕ, zero, suc, _+_, _-_, _*_, _/_, _%_, _^_, _<_}
+use Prim.Native.Nat.{ℕ, zero, suc, _+_, _*_, _/_, _%_, _^_, _<_}
 use native.Mathlib.Nat.{zero-div, mod-eq-of-lt, zero-add, two-pow-succ, mod-one}
 use native.Mathlib.Numerals.{add-one, one-add}
 use native.Mathlib.Omega.{arith}
@@ -9,10 +9,10 @@ use lib.Pow.{mod-pow-add}
 use lib.Count.{onesIn}
 use Rattle.lines.specs.Line.{line, choose}
 use Rattle.lines.specs.Gather.{pack, gathered, scattered}
-use Rattle.lines.proofs.Digit.{bit-lt, next-lines, line-half, line-zero}
+use Rattle.lines.proofs.Digit.{bit-lt, line-half, line-zero}
 
 -- what a line gets is a bit
-pub low-lt : (d v : ℕ) → choose d 0 (v % 2) < 2
+low-lt : (d v : ℕ) → choose d 0 (v % 2) < 2
 low-lt zero v = omega arith
 low-lt (suc d) v = omega arith
 
@@ -41,15 +41,6 @@ gather-scatter (suc n) value mask =
     let t = scattered n rest (mask / 2) in
     let half : (t * 2 + choose (mask % 2) 0 (value % 2)) / 2 ≡ t = omega (arith, low-lt (mask % 2) value) in
     gather-scatter-step (mask % 2) value t _ _ (bit-lt mask) (rw half (gather-scatter n rest (mask / 2)))
-
--- the value scattered from line i up is its bit for line i and the rest, scattered from line i + 1 up
-pub scatter-line : (n value mask i : ℕ) → i < n
-    → scattered (n - i) value (mask / 2 ^ i)
-    ≡ scattered (n - suc i) (choose (line mask i) value (value / 2)) (mask / 2 ^ suc i) * 2 + choose (line mask i) 0 (value % 2)
-unfolding scattered
-scatter-line n value mask i h =
-    let more : n - i ≡ suc (n - suc i) = omega arith in
-    rw (more, next-lines mask i)
 
 -- a value of as many bits as there are masked lines comes back whole
 pub gather-back : (n value mask : ℕ) → value < 2 ^ onesIn n mask → gathered n (scattered n value mask) mask ≡ value

@@ -33,10 +33,6 @@ pub T-true : (b : Bool) → b ≡ true → T b
 T-true true e = tt
 T-true false e = absurd (true≢false (sym e))
 
-pub true-T : (b : Bool) → T b → b ≡ true
-true-T true t = refl
-true-T false t = absurd t
-
 -- both parts of a true conjunction
 pub both-true : (a b : Bool) → a && b ≡ true → (a ≡ true) × (b ≡ true)
 both-true true b e = (refl, e)
@@ -46,10 +42,6 @@ both-true false b e = absurd (true≢false (sym e))
 pub both-false : (a b : Bool) → a && b ≡ false → (a ≡ false) ⊎ (b ≡ false)
 both-false true b e = inr e
 both-false false b e = inl refl
-
-pub or-false : (b : Bool) → b || false ≡ b
-or-false true = refl
-or-false false = refl
 
 pub or-true : (b : Bool) → b || true ≡ true
 or-true true = refl

@@ -14,34 +14,34 @@ pub fn line_value(x: u32, i: u32) -> u32
 }
 
 // The masked lines of the sample, packed into a number: the lowest masked line is bit 0.
-// The lines are taken from the highest down, so that each masked line goes in at bit 0.
+// Only the masked lines are visited, the lowest first.
 pub fn gather(sample: u32, mask: u32) -> u32
     ensures { λ r. ⌜ r ≡ gathered 32 sample mask ⌝ }
 {
     let mut packed: u32 = 0;
-    let mut i: u32 = 32;
-    while 0 < i {
-        i -= 1;
-        if line_value(mask, i) == 1 {
-            packed = (packed << 1) | line_value(sample, i);
-        }
+    let mut rank: u32 = 0;
+    let mut left = mask;
+    while 0 < left {
+        let bit = line_value(sample, u32::trailing_zeros(left));
+        packed = packed | (bit << rank);
+        rank += 1;
+        left = drop_lowest(left);
     }
     packed
 }
 
 // The bits of the value put on the masked lines: bit 0 on the lowest masked line. Every other line is 0.
+// Only the masked lines are visited, the lowest first.
 pub fn scatter(value: u32, mask: u32) -> u32
     ensures { λ r. ⌜ r ≡ scattered 32 value mask ⌝ }
 {
     let mut spread: u32 = 0;
     let mut rest = value;
-    let mut i: u32 = 0;
-    while i < 32 {
-        if line_value(mask, i) == 1 {
-            spread = spread | ((rest & 1) << i);
-            rest = rest >> 1;
-        }
-        i += 1;
+    let mut left = mask;
+    while 0 < left {
+        spread += (rest & 1) << u32::trailing_zeros(left);
+        rest = rest >> 1;
+        left = drop_lowest(left);
     }
     spread
 }

@@ -1,3 +1,5 @@
 pub mod Halves
 pub mod Tables
+pub mod Down
 pub mod Runs
+pub mod Asked

@@ -1,4 +1,4 @@
--- What the model answers for any lent words (01, "The model").
+-- What the model answers for any lent words.
 use mathlib.Core.Bool.{Bool, cond}
 use mathlib.Core.List.{List}
 use Prim.Native.Nat.{ℕ}
@@ -7,24 +7,27 @@ use lib.ListN.{length}
 use Rattle.lut.specs.declared.Answer.{Answer}
 use Rattle.lut.specs.declared.Answer.the-variants.{Hit, Miss, WrongCount}
 
+-- the answer of a run: hit or miss [M1]
 abbrev pub hitOrMiss : Bool → Answer
 hitOrMiss hit = cond hit Hit Miss
 
--- the words are run if they are as many as needed; "17: model given a wrong word count" (01, "Refusal numbers")
+-- the words are run if they are as many as needed; if not, the answer has the count needed [M1, F17, L9]
 abbrev pub ran : (needed : ℕ) → List ℕ → Bool → Answer
 ran needed words hit = cond (eqb (length words) needed) (hitOrMiss hit) (WrongCount needed)
 
--- each answer in 01's terms: the refusal's number (0: none), its place, "the count needed", and whether it is a hit
+-- the refusal number for each answer: 17 for a wrong count, 0 for a run [A5, F17]
 abbrev pub answerNumber : Answer → ℕ
 answerNumber Hit = 0
 answerNumber Miss = 0
 answerNumber (WrongCount needed) = 17
 
+-- its place: the count needed, 0 for a run [A5, F17]
 abbrev pub answerPlace : Answer → ℕ
 answerPlace Hit = 0
 answerPlace Miss = 0
 answerPlace (WrongCount needed) = needed
 
+-- a hit as a number: 1, and 0 for a miss and for a refused run [A6]
 abbrev pub answerHit : Answer → ℕ
 answerHit Hit = 1
 answerHit Miss = 0

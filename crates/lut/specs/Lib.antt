@@ -1,3 +1,4 @@
 pub mod Table
 pub mod Answer
+pub mod Input
 pub mod Telling

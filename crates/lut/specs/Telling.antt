@@ -1,46 +1,36 @@
--- What it is to hit alike and to be told apart, for two descriptions given by their rules of a hit (01, "Plain rules of a hit").
--- "Telling sample" is 01's own term for an input that tells two descriptions apart.
+-- What it is to hit alike and to be told apart, for two descriptions of one kind given by their rules of a hit. Hit
+-- alike, tell apart and telling sample are the buyer's terms.
 use mathlib.Core.Bool.{Bool}
 use mathlib.Core.Path.{_≡_}
-use Prim.Native.Nat.{ℕ, _^_, _<_}
+use Prim.Native.Nat.{ℕ, _<_}
+use Rattle.lut.specs.declared.Input.{Input}
+use Rattle.lut.specs.declared.Input.the-variants.{Nothing, Sample, Samples, Sources}
 use Rattle.lut.specs.declared.Telling.{Telling}
-use Rattle.lut.specs.declared.Telling.the-variants.{Alike, One, Two}
+use Rattle.lut.specs.declared.Telling.the-variants.{Alike, Apart}
+use Rattle.lut.specs.Input.{Fits}
 
--- "hit alike on every input": any sample of a term or a range
-abbrev pub HitAlike : (f g : ℕ → Bool) → Type 0
-HitAlike f g = (sample : ℕ) → sample < 2 ^ 32 → f sample ≡ g sample
+-- the two hit alike on every input: what is promised of equal chain words [G6, D3.1, D3.2, D3.3]
+abbrev pub HitAlike : (f g : Input → Bool) → Type 0
+HitAlike f g = (i : Input) → Fits i → f i ≡ g i
 
--- any earlier and later sample of an edge
-abbrev pub HitAlike₂ : (f g : ℕ → ℕ → Bool) → Type 0
-HitAlike₂ f g = (earlier later : ℕ) → earlier < 2 ^ 32 → later < 2 ^ 32 → f earlier later ≡ g earlier later
+-- on this input one hits and the other misses: it is a telling sample [G7, G8, D3.6]
+pub record TellsApart (f g : Input → Bool) (i : Input) : Type 0 where
+  pub fits : Fits i
+  pub tells : f i ≡ g i → ⊥
 
--- "otherwise that input tells them apart"
-pub record TellsApart (f g : ℕ → Bool) (sample : ℕ) : Type 0 where
-  pub fits : sample < 2 ^ 32
-  pub tells : f sample ≡ g sample → ⊥
+-- what an answer says of two descriptions: no input tells them apart, or this one does [N6, D3.5]
+abbrev pub Says : (f g : Input → Bool) → Telling → Type 0
+Says f g Alike = HitAlike f g
+Says f g (Apart i) = TellsApart f g i
 
-pub record TellsApart₂ (f g : ℕ → ℕ → Bool) (earlier later : ℕ) : Type 0 where
-  pub fits-earlier : earlier < 2 ^ 32
-  pub fits-later : later < 2 ^ 32
-  pub tells : f earlier later ≡ g earlier later → ⊥
+-- no lesser sample tells them apart; asked of one sample only [N9, D3.7]
+abbrev pub NoneLess : (f g : Input → Bool) → Input → Type 0
+NoneLess f g Nothing = Unit
+NoneLess f g (Sample s) = (r : ℕ) → r < s → f (Sample r) ≡ g (Sample r)
+NoneLess f g (Samples earlier later) = Unit
+NoneLess f g (Sources s) = Unit
 
--- "the least telling sample"
-pub record LeastApart (f g : ℕ → Bool) (sample : ℕ) : Type 0 where
-  pub apart : TellsApart f g sample
-  pub least : (r : ℕ) → r < sample → f r ≡ g r
-
--- what an answer says of two descriptions: by a least sample (terms), by a sample (ranges), by two samples (edges)
-abbrev pub SaysLeast : (f g : ℕ → Bool) → Telling → Type 0
-SaysLeast f g Alike = HitAlike f g
-SaysLeast f g (One sample) = LeastApart f g sample
-SaysLeast f g (Two earlier later) = ⊥
-
-abbrev pub SaysOne : (f g : ℕ → Bool) → Telling → Type 0
-SaysOne f g Alike = HitAlike f g
-SaysOne f g (One sample) = TellsApart f g sample
-SaysOne f g (Two earlier later) = ⊥
-
-abbrev pub SaysTwo : (f g : ℕ → ℕ → Bool) → Telling → Type 0
-SaysTwo f g Alike = HitAlike₂ f g
-SaysTwo f g (One sample) = ⊥
-SaysTwo f g (Two earlier later) = TellsApart₂ f g earlier later
+-- what an answer that shows the least sample says besides [N9, D3.7]
+abbrev pub Least : (f g : Input → Bool) → Telling → Type 0
+Least f g Alike = Unit
+Least f g (Apart i) = NoneLess f g i

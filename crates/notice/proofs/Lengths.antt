@@ -1,131 +1,155 @@
--- How long the lines of a slot can be: 35 bytes for a term's or a range's, 44 for an edge's, 26 for a sum's. Assumes nothing.
-use Prim.Native.Nat.{ℕ, zero, suc, _+_, _≤_, min, max}
+-- How long a notice can be: a line on a changed description has at most 22 bytes for a term or a range, 31 for an edge
+-- and 13 for a sum; a line NAME before it has 13. Assumes nothing.
+use Prim.Native.Nat.{ℕ, zero, suc, _+_, _*_, _≤_, min, max}
 use mathlib.Core.Bool.{Bool, true, false, cond}
 use mathlib.Core.List.{List, [], _∷_}
+use mathlib.Core.Path.{_≡_, refl}
+use native.Mathlib.Nat.{suc-mul}
 use native.Mathlib.Omega.{arith}
 use lib.Bits.{bitAnd, bitXor}
 use lib.Dec.{eqb}
 use lib.ListN.{length, getD, length-append}
 use Rattle.lines.specs.Gather.{scattered}
-use Rattle.lines.specs.Same.{same}
+use Rattle.buffer.specs.Same.{same}
+use Rattle.lut.specs.declared.Input.the-variants.{Nothing, Sample, Samples, Sources}
 use Rattle.lut.specs.declared.Telling.{Telling}
-use Rattle.lut.specs.declared.Telling.the-variants.{Alike, One, Two}
-use Rattle.records.specs.Sections.{fieldOf, labelOf, descriptionOf}
-use Rattle.term.specs.Telling.{leastTelling, lowestLine}
-use Rattle.range_telling.specs.Tell.{firstDiffer, tellMasks, tellBounds, tellReduced, tellingOf}
-use Rattle.range_telling.specs.Reduce.{reduceOf}
+use Rattle.lut.specs.declared.Telling.the-variants.{Alike, Apart}
+use Rattle.kinds.specs.Change.{told}
+use Rattle.kinds.specs.Table.{changeOf, sections, mostOf, kindOf}
+use Rattle.records.specs.Sections.{labelOf, descriptionOf}
+use Rattle.records.specs.Records.{find}
+use Rattle.sheet.specs.Parsed.{parse}
+use Rattle.term.specs.Description as term
+use Rattle.term.specs.Telling.{termTelling, lowestLine}
+use Rattle.range.specs.Description as range
 use Rattle.range.specs.declared.Range.{Range}
-use Rattle.edge.specs.Telling.{tellingEdge}
-use Rattle.notice.specs.declared.Finding.{Finding}
-use Rattle.notice.specs.declared.Finding.the-variants.{New, Gone, Name}
+use Rattle.range_telling.specs.Description as range-telling
+use Rattle.range_telling.specs.Telling.{firstDiffer, tellMasks, tellBounds, tellReduced, rangeTelling}
+use Rattle.range_telling.specs.Reduce.{reduceOf}
+use Rattle.edge.specs.Description as edge
+use Rattle.notice.specs.declared.Finding.the-variants.{New, Gone, Name, Changed}
 use Rattle.notice.specs.declared.Line.{Line}
-use Rattle.notice.specs.Text.{renderAll}
-use Rattle.notice.specs.Findings.{rangeOf, edgeOf, told, termFinding, rangeFinding, edgeFinding, sumFinding, findingOf, line, unlessSame, sharedLines, slotLines}
-use Rattle.notice.proofs.Lines.{renderAll-append, findingLength, one-length}
+use Rattle.notice.specs.Text.{changeText, findingText, renderAll}
+use Rattle.notice.specs.Findings.{line, unlessSame, sharedLines, slotLines}
+use Rattle.notice.specs.Notice.{linesFrom, sectionsLines, noticeLines, noticeText}
+use Rattle.notice.proofs.Lines.{renderAll-append, one-length}
+use Rattle.notice.proofs.Slots.{shared-length}
 
--- ---- a pattern's and a range's telling has at most one sample
+-- ---- a changed description
 
-abbrev pub Single : Telling → Type 0
-Single Alike = Unit
-Single (One sample) = Unit
-Single (Two earlier later) = ⊥
+-- the line has at most n bytes, eight of them before the finding
+abbrev Within : ℕ → Telling → Type 0
+Within n t = 8 + length (changeText (told t)) ≤ n
 
-picks : (a b : Bool) (x y : ℕ) → Single (cond a (cond b Alike (One x)) (One y))
-picks true true x y = tt
-picks true false x y = tt
-picks false b x y = tt
+-- of one sample, or none
+picks : (a b : Bool) (x y : ℕ) → Within 22 (cond a (cond b Alike (Apart (Sample x))) (Apart (Sample y)))
+picks true true x y = omega arith
+picks true false x y = omega arith
+picks false b x y = omega arith
 
-picks-one : (a : Bool) (t : Telling) (x : ℕ) → Single t → Single (cond a t (One x))
-picks-one true t x s = s
-picks-one false t x s = tt
+picks-one : (a : Bool) (t : Telling) (x : ℕ) → Within 22 t → Within 22 (cond a t (Apart (Sample x)))
+picks-one true t x w = w
+picks-one false t x w = omega arith
 
-pub term-single : (t₁ m₁ t₂ m₂ : ℕ) → Single (leastTelling t₁ m₁ t₂ m₂)
-unfolding leastTelling
-term-single t₁ m₁ t₂ m₂ =
+term-within : (t₁ m₁ t₂ m₂ : ℕ) → Within 22 (termTelling t₁ m₁ t₂ m₂)
+unfolding termTelling
+term-within t₁ m₁ t₂ m₂ =
     picks (eqb (bitAnd t₁ m₁) (bitAnd t₂ m₂)) (eqb m₁ m₂) (bitAnd t₁ m₁ + lowestLine (bitXor m₁ m₂)) (min (bitAnd t₁ m₁) (bitAnd t₂ m₂))
 
-bounds-single : (a b : Range) → Single (tellBounds a b)
+bounds-within : (a b : Range) → Within 22 (tellBounds a b)
 unfolding tellBounds
-bounds-single a b =
+bounds-within a b =
     picks (eqb (a .lower) (b .lower)) (eqb (a .upper) (b .upper)) (scattered 32 (max (a .upper) (b .upper)) (a .mask))
     (scattered 32 (min (a .lower) (b .lower)) (a .mask))
 
-reduced-single : (a b : Range) → Single (tellReduced a b)
+range-within : (a b : Range) → Within 22 (tellReduced a b)
 unfolding tellReduced
-reduced-single a b =
-    picks-one (eqb (a .mask) (b .mask)) (tellBounds a b) (tellMasks a b (firstDiffer 32 (a .mask) (b .mask))) (bounds-single a b)
+range-within a b =
+    picks-one (eqb (a .mask) (b .mask)) (tellBounds a b) (tellMasks a b (firstDiffer 32 (a .mask) (b .mask))) (bounds-within a b)
 
-pub range-single : (a b : Range) → Single (tellingOf a b)
-unfolding tellingOf
-range-single a b = reduced-single (reduceOf a) (reduceOf b)
+-- of any input
+any-within : (t : Telling) → Within 31 t
+any-within Alike = omega arith
+any-within (Apart Nothing) = omega arith
+any-within (Apart (Sample s)) = omega arith
+any-within (Apart (Samples e l)) = omega arith
+any-within (Apart (Sources s)) = omega arith
 
-one-most : (t : Telling) → Single t → 8 + findingLength (told t) ≤ 22
-one-most Alike s = omega arith
-one-most (One sample) s = omega arith
-one-most (Two earlier later) s = absurd s
-
-two-most : (t : Telling) → 8 + findingLength (told t) ≤ 31
-two-most Alike = omega arith
-two-most (One sample) = omega arith
-two-most (Two earlier later) = omega arith
-
--- ---- a changed description, a slot
-
--- the longest line for a changed description, and the longest text of a slot, by the section's number
-abbrev pub changeMost : ℕ → ℕ
+-- by the section's number
+abbrev changeMost : ℕ → ℕ
 changeMost k = getD (22 ∷ 22 ∷ 31 ∷ 13 ∷ []) k 13
 
-abbrev pub slotMost : ℕ → ℕ
+change-most : (k : ℕ) (d e : List ℕ) → 8 + length (changeText (changeOf k d e)) ≤ changeMost k
+unfolding changeOf kindOf term.telling range-telling.telling rangeTelling edge.telling
+change-most zero d e = term-within (term.fromBytes d .target) (term.fromBytes d .mask) (term.fromBytes e .target) (term.fromBytes e .mask)
+change-most (suc zero) d e = range-within (reduceOf (range.fromBytes d)) (reduceOf (range.fromBytes e))
+change-most (suc (suc zero)) d e = any-within (edge.telling d e)
+change-most (suc (suc (suc zero))) d e = omega arith
+change-most (suc (suc (suc (suc k)))) d e = omega arith
+
+-- ---- a slot
+
+slotMost : ℕ → ℕ
 slotMost k = 13 + changeMost k
 
-pub change-most : (k : ℕ) (old new : List ℕ) → 8 + findingLength (findingOf k old new) ≤ changeMost k
-unfolding findingOf termFinding rangeFinding edgeFinding sumFinding
-change-most zero old new =
-    one-most (leastTelling (fieldOf old 0) (fieldOf old 1) (fieldOf new 0) (fieldOf new 1))
-    (term-single (fieldOf old 0) (fieldOf old 1) (fieldOf new 0) (fieldOf new 1))
-change-most (suc zero) old new = one-most (tellingOf (rangeOf old) (rangeOf new)) (range-single (rangeOf old) (rangeOf new))
-change-most (suc (suc zero)) old new = two-most (tellingEdge (edgeOf old) (edgeOf new))
-change-most (suc (suc (suc zero))) old new = omega arith
-change-most (suc (suc (suc (suc k)))) old new = omega arith
-
-pub most-44 : (k : ℕ) → (26 ≤ slotMost k) × (slotMost k ≤ 44)
-most-44 zero = omega arith
-most-44 (suc zero) = omega arith
-most-44 (suc (suc zero)) = omega arith
-most-44 (suc (suc (suc zero))) = omega arith
-most-44 (suc (suc (suc (suc k)))) = omega arith
-
-nothing : (m : ℕ) → length (renderAll []) ≤ m
-unfolding renderAll
-nothing m = omega arith
-
 -- a line or none
-unless-length : (old new : List ℕ) (l : Line) (m : ℕ) → 8 + findingLength (l .finding) ≤ m → length (renderAll (unlessSame old new l)) ≤ m
+unless-length : (old new : List ℕ) (l : Line) (m : ℕ) → 8 + length (findingText (l .finding)) ≤ m → length (renderAll (unlessSame old new l)) ≤ m
+unfolding renderAll
 unless-length old new l m h = go (same old new)
   where
     go : (b : Bool) → length (renderAll (cond b [] (l ∷ []))) ≤ m
-    go true = nothing m
-    go false = rw (one-length l) h
+    go true = omega arith
+    go false = let e = one-length l in omega arith
 
-pub name-length : (k slot : ℕ) (old new : List ℕ) → length (renderAll (unlessSame old new (line k slot Name))) ≤ 13
-name-length k slot old new = unless-length old new (line k slot Name) 13 (omega arith)
-
-pub shared-length : (k slot : ℕ) (old new : List ℕ) → length (renderAll (sharedLines k slot old new)) ≤ slotMost k
-unfolding sharedLines
-shared-length k slot old new =
-    let names = unlessSame (labelOf old) (labelOf new) (line k slot Name) in
-    let change = line k slot (findingOf k (descriptionOf old) (descriptionOf new)) in
-    let changes = unlessSame (descriptionOf old) (descriptionOf new) change in
-    rw (renderAll-append names changes, length-append (renderAll names) (renderAll changes))
-    (omega (
+shared-most : (k slot : ℕ) (old new : List ℕ) → length (renderAll (sharedLines k slot old new)) ≤ slotMost k
+unfolding slotMost
+shared-most k slot old new =
+    let d = descriptionOf old in
+    let e = descriptionOf new in
+    omega (
       arith,
-      name-length k slot (labelOf old) (labelOf new),
-      unless-length (descriptionOf old) (descriptionOf new) change (changeMost k) (change-most k (descriptionOf old) (descriptionOf new)),
-    ))
+      shared-length k slot old new,
+      unless-length (labelOf old) (labelOf new) (line k slot Name) 13 (omega arith),
+      unless-length d e (line k slot (Changed (changeOf k d e))) (changeMost k) (change-most k d e),
+    )
 
-pub slot-length : (k slot : ℕ) (old new : List ℕ) → length (renderAll (slotLines k slot old new)) ≤ slotMost k
-unfolding renderAll slotLines
+slot-length : (k slot : ℕ) (old new : List ℕ) → length (renderAll (slotLines k slot old new)) ≤ slotMost k
+unfolding renderAll slotLines slotMost
 slot-length k slot [] [] = omega arith
-slot-length k slot [] (y ∷ new) = rw (one-length (line k slot New)) (omega (arith, most-44 k))
-slot-length k slot (x ∷ old) [] = rw (one-length (line k slot Gone)) (omega (arith, most-44 k))
-slot-length k slot (x ∷ old) (y ∷ new) = shared-length k slot (x ∷ old) (y ∷ new)
+slot-length k slot [] (y ∷ new) = rw (one-length (line k slot New)) (omega arith)
+slot-length k slot (x ∷ old) [] = rw (one-length (line k slot Gone)) (omega arith)
+slot-length k slot (x ∷ old) (y ∷ new) = shared-most k slot (x ∷ old) (y ∷ new)
+
+-- ---- a section, a notice
+
+lines-length : (k n slot : ℕ) (os ns : List (List ℕ)) → length (renderAll (linesFrom k n slot os ns)) ≤ n * slotMost k
+unfolding linesFrom renderAll
+lines-length k zero slot os ns = omega arith
+lines-length k (suc n) slot os ns =
+    let now = slotLines k slot (find slot os) (find slot ns) in
+    let rest = linesFrom k n (slot + 1) os ns in
+    rw (renderAll-append now rest, length-append (renderAll now) (renderAll rest), suc-mul n (slotMost k))
+    (omega (arith, slot-length k slot (find slot os) (find slot ns), lines-length k n (slot + 1) os ns))
+
+-- the most text of n sections from section k on
+mostText : (n k : ℕ) → ℕ
+mostText zero k = 0
+mostText (suc n) k = mostOf k * slotMost k + mostText n (k + 1)
+
+sections-length : (n k : ℕ) (p q : List (List (List ℕ))) → length (renderAll (sectionsLines n k p q)) ≤ mostText n k
+unfolding sectionsLines renderAll mostText
+sections-length zero k p q = omega arith
+sections-length (suc n) k p q =
+    let now = linesFrom k (mostOf k) 0 (getD p k []) (getD q k []) in
+    let rest = sectionsLines n (k + 1) p q in
+    rw (renderAll-append now rest, length-append (renderAll now) (renderAll rest))
+    (omega (arith, lines-length k (mostOf k) 0 (getD p k []) (getD q k []), sections-length n (k + 1) p q))
+
+all-text : mostText sections 0 ≡ 1756
+unfolding mostText slotMost mostOf kindOf
+all-text = refl
+
+-- no notice has more than 1,756 bytes [N11, A9]
+pub at-most : (old new : List ℕ) → length (noticeText old new) ≤ 1756
+unfolding noticeText noticeLines
+at-most old new = omega (arith, sections-length sections 0 (parse old) (parse new), all-text)

@@ -1,6 +1,6 @@
 pub mod Lines
-pub mod Lengths
 pub mod Slots
+pub mod Lengths
 pub mod Walk
 pub mod Across
 pub mod Answers

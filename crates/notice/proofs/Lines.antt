@@ -1,12 +1,19 @@
--- The text of lines: how lists of lines render, and how long the text is. Assumes nothing.
-use Prim.Native.Nat.{ℕ, zero, suc, _+_}
+-- The text of lines: how lists of lines render, how long the text of one is, and texts written one behind the other.
+-- Assumes nothing.
+use Prim.Native.Nat.{ℕ, zero, suc, _+_, _-_, _≤_}
 use mathlib.Core.Path.{_≡_, refl, sym, ap, _∙_}
 use mathlib.Core.List.{List, [], _∷_, _++_, append-assoc, append-nil}
-use lib.ListN.{length, length-append}
-use Rattle.notice.specs.declared.Finding.{Finding}
-use Rattle.notice.specs.declared.Finding.the-variants.{New, Gone, Name, Oper, Word, AltrOne, AltrTwo}
+use native.Mathlib.Omega.{arith}
+use lib.ListN.{length, take, drop, length-append}
+use lib.Seq.{take-all}
+use Rattle.buffer.specs.Room.{write, Wrote}
+use Rattle.buffer.proofs.Writing.{Pending, pending-start, pending-write, pending-end}
+use Rattle.lut.specs.declared.Input.{Input}
+use Rattle.kinds.specs.Table.{nameOf}
+use Rattle.kinds.specs.declared.Change.the-variants.{Altr}
+use Rattle.kinds.proofs.Rows.{of-any}
 use Rattle.notice.specs.declared.Line.{Line}
-use Rattle.notice.specs.Text.{kindText, slotText, findingText, render, renderAll}
+use Rattle.notice.specs.Text.{hex, slotText, inputText, changeText, findingText, render, renderAll}
 
 pub renderAll-one : (l : Line) → renderAll (l ∷ []) ≡ render l
 unfolding renderAll
@@ -20,47 +27,65 @@ renderAll-append (l ∷ ls) ms =
 
 -- ---- lengths
 
-pub kind-length : (k : ℕ) → length (kindText k) ≡ 4
-kind-length zero = refl
-kind-length (suc zero) = refl
-kind-length (suc (suc zero)) = refl
-kind-length (suc (suc (suc k))) = refl
+pub hex-length : (n x : ℕ) → length (hex n x) ≡ n
+hex-length zero x = refl
+hex-length (suc n) x = ap suc (hex-length n x)
 
--- every section but the first three has the last text
-pub kind-last : (k : ℕ) → (k ≡ 0 → ⊥) → (k ≡ 1 → ⊥) → (k ≡ 2 → ⊥) → kindText k ≡ kindText 3
-kind-last zero a b c = absurd (a refl)
-kind-last (suc zero) a b c = absurd (b refl)
-kind-last (suc (suc zero)) a b c = absurd (c refl)
-kind-last (suc (suc (suc k))) a b c = refl
+-- fewer digits are the last ones
+hex-drop : (m n last x : ℕ) → n ≡ m + last → drop m (hex n x) ≡ hex last x
+hex-drop zero n last x e = let q : n ≡ last = omega arith in rw q
+hex-drop (suc m) zero last x e = absurd (omega arith)
+hex-drop (suc m) (suc n) last x e = hex-drop m n last x (omega arith)
 
--- the finding's text, with the line's end
-abbrev pub findingLength : Finding → ℕ
-findingLength New = 4
-findingLength Gone = 5
-findingLength Name = 5
-findingLength Oper = 5
-findingLength Word = 5
-findingLength (AltrOne s) = 14
-findingLength (AltrTwo e l) = 23
+pub hex-last : (n x : ℕ) → n ≤ 8 → take (8 - (8 - n)) (drop (8 - n) (hex 8 x)) ≡ hex n x
+hex-last n x h =
+    let d = hex-drop (8 - n) 8 n x (omega arith) in
+    ap (take (8 - (8 - n))) d ∙ take-all (8 - (8 - n)) (hex n x) (omega (arith, hex-length n x))
 
-pub finding-length : (f : Finding) → length (findingText f) ≡ findingLength f
-finding-length New = refl
-finding-length Gone = refl
-finding-length Name = refl
-finding-length Oper = refl
-finding-length Word = refl
-finding-length (AltrOne s) = refl
-finding-length (AltrTwo e l) = refl
+pub altr-length : (i : Input) → length (changeText (Altr i)) ≡ 5 + length (inputText i)
+altr-length i = rw (length-append ((65 ∷ 76 ∷ 84 ∷ 82 ∷ []) ++ inputText i) (10 ∷ [])) (omega arith)
 
-pub render-length : (l : Line) → length (render l) ≡ 8 + findingLength (l .finding)
+pub name-length : (k : ℕ) → length (nameOf k) ≡ 4
+unfolding nameOf
+name-length = of-any (λ x. length (x .name) ≡ 4) (refl, (refl, (refl, (refl, tt)))) refl
+
+pub render-length : (l : Line) → length (render l) ≡ 8 + length (findingText (l .finding))
 unfolding render
 render-length l =
     rw (
-      length-append (kindText (l .section) ++ slotText (l .slot)) (findingText (l .finding)),
-      length-append (kindText (l .section)) (slotText (l .slot)),
-      kind-length (l .section),
-      finding-length (l .finding),
+      length-append (nameOf (l .section) ++ slotText (l .slot)) (findingText (l .finding)),
+      length-append (nameOf (l .section)) (slotText (l .slot)),
+      name-length (l .section),
     )
 
-pub one-length : (l : Line) → length (renderAll (l ∷ [])) ≡ 8 + findingLength (l .finding)
+pub one-length : (l : Line) → length (renderAll (l ∷ [])) ≡ 8 + length (findingText (l .finding))
 one-length l = ap length (renderAll-one l) ∙ render-length l
+
+-- ---- a text that is written piece by piece from an index on: `rest` of it is left, to be written at `at`
+
+pub record Left (from : ℕ) (text out₀ out : List ℕ) (at : ℕ) (rest : List ℕ) : Type 0 where
+  pub pending : Pending out₀ (write from text out₀) at rest out
+  pub count : at + length rest ≡ from + length text
+
+pub left-start : (from : ℕ) (text out : List ℕ) → from + length text ≤ length out → Left from text out out from text
+left-start from text out h = record { pending = pending-start from text out h; count = refl }
+
+module _ (from : ℕ) (text out₀ out : List ℕ) (at : ℕ) (rest : List ℕ) (l : Left from text out₀ out at rest) where
+  -- the next piece fits
+  pub left-room : (now later : List ℕ) → rest ≡ now ++ later → at + length now ≤ length out
+  left-room now later e =
+      let r : at + length (now ++ later) ≤ length out = rw e at (l .pending .room) in
+      omega (arith, length-append now later)
+
+  pub left-turn : (now later out′ : List ℕ) (at′ : ℕ) → rest ≡ now ++ later → Wrote at now out out′ at′ → Left from text out₀ out′ at′ later
+  left-turn now later out′ at′ e w =
+      let c : at + length (now ++ later) ≡ from + length text = rw e at (l .count) in
+      record {
+        pending = pending-write out₀ _ at at′ rest now later out out′ e (w .next) (l .pending) (w .left);
+        count = omega (arith, w .next, length-append now later);
+      }
+
+  pub left-end : rest ≡ [] → Wrote from text out₀ out at
+  left-end e =
+      let c : at + 0 ≡ from + length text = rw e at (l .count) in
+      record { next = omega arith; left = pending-end out₀ (write from text out₀) at out (rw e at (l .pending)) }

@@ -1,22 +1,24 @@
--- Which lines a notice has: a line is there exactly if the two records with its slot give it. Assumes nothing.
+-- Which lines a notice has: a line is there exactly if what it says of its slot's two records holds. Assumes nothing.
 use Prim.Native.Nat.{ℕ, zero, suc, _+_, _≤_, _<_}
-use mathlib.Core.Path.{_≡_, refl, sym, ap, subst}
+use mathlib.Core.Path.{_≡_, refl, sym, ap, _∙_, subst}
 use mathlib.Core.Bool.{Bool, true, false, cond}
-use mathlib.Core.List.{List, [], _∷_, List·Memᴰ, List·Memᴰ·head, List·Memᴰ·not-nil, List·Memᴰ·append-cases, List·Memᴰ·eq-of-singleton, Memᴰ·append-left, Memᴰ·append-right}
-use mathlib.Core.Logic.{_↔_, _⊎_, inl, inr, ⊎-elim}
+use mathlib.Core.List.{List, [], _∷_, List·Memᴰ, List·Memᴰ·head, List·Memᴰ·not-nil, List·Memᴰ·append-cases, List·Memᴰ·eq-of-singleton, Memᴰ·append-left, Memᴰ·append-right, cons≢nil}
+use mathlib.Core.Logic.{_↔_, ⊎-elim}
 use native.Mathlib.Omega.{arith}
 use native.Mathlib.Decide.{ℕ-discrete}
 use lib.ListN.{getD}
-use Rattle.lines.specs.Same.{same}
+use Rattle.buffer.specs.Same.{same}
+use Rattle.buffer.proofs.Compare.{same-refl, same-false}
+use Rattle.kinds.specs.Table.{changeOf}
 use Rattle.records.specs.Sections.{sections, mostOf, labelOf, descriptionOf}
 use Rattle.records.specs.Records.{find}
 use Rattle.sheet.specs.Parsed.{parse}
 use Rattle.notice.specs.declared.Finding.{Finding}
-use Rattle.notice.specs.declared.Finding.the-variants.{New, Gone, Name, Oper, Word, AltrOne, AltrTwo}
+use Rattle.notice.specs.declared.Finding.the-variants.{New, Gone, Name, Changed}
 use Rattle.notice.specs.declared.Line.{Line}
-use Rattle.notice.specs.Findings.{findingOf, line, unlessSame, sharedLines, slotLines}
+use Rattle.notice.specs.Findings.{line, unlessSame, sharedLines, slotLines}
 use Rattle.notice.specs.Notice.{linesFrom, sectionsLines, noticeLines}
-use Rattle.notice.specs.Shared.{recordOf}
+use Rattle.notice.specs.Shared.{recordOf, Gives}
 
 -- ---- a slot's lines are of its section and slot
 
@@ -91,8 +93,8 @@ sections-to (suc n) j k p q l h b i =
       | no e ↦ Memᴰ·append-right (sectionLines j p q) (sections-to n (j + 1) k p q l (omega arith) (omega arith) i)
     ]
 
--- a line for a slot is in the notice exactly if the slot's two records give it
-pub notice-line : (old new : List ℕ) (k s : ℕ) (f : Finding)
+-- a line for a slot is in the notice exactly if it is a line of the slot's two records
+notice-line : (old new : List ℕ) (k s : ℕ) (f : Finding)
     → List·Memᴰ (line k s f) (noticeLines old new)
     ↔ ((k < sections) × (s < mostOf k) × List·Memᴰ (line k s f) (slotLines k s (recordOf k s old) (recordOf k s new)))
 unfolding noticeLines
@@ -106,77 +108,55 @@ notice-line old new k s f = (
       (lines-to k (mostOf k) 0 s (getD (parse old) k []) (getD (parse new) k []) (line k s f) (omega arith) (omega arith) (h .2))),
 )
 
--- ---- the findings of a slot
-
-unfoldable pub tag : Finding → ℕ
-tag New = 0
-tag Gone = 1
-tag Name = 2
-tag Oper = 3
-tag Word = 4
-tag (AltrOne s) = 5
-tag (AltrTwo e l) = 6
+-- ---- what a line says of its slot
 
 same-finding : (k s : ℕ) (f g : Finding) → line k s f ≡ line k s g → f ≡ g
 same-finding k s f g e = ap (λ (l : Line). l .finding) e
 
-unfoldable pub Renamed : (old new : List ℕ) → Finding → Type 0
-Renamed old new f = (same (labelOf old) (labelOf new) ≡ false) × (f ≡ Name)
+differ : (a b : List ℕ) → same a b ≡ false → a ≡ b → ⊥
+differ a b e q =
+    let z : _≡_ {A = Bool} true false = sym (ap (same a) (sym q) ∙ same-refl a) ∙ e in
+    let n : _≡_ {A = ℕ} 0 1 = cc in
+    omega arith
 
-unfoldable pub Changed : (k : ℕ) (old new : List ℕ) → Finding → Type 0
-Changed k old new f =
-    (same (descriptionOf old) (descriptionOf new) ≡ false) × (f ≡ findingOf k (descriptionOf old) (descriptionOf new))
-
-pub shared-from : (k s : ℕ) (old new : List ℕ) (f : Finding) → List·Memᴰ (line k s f) (sharedLines k s old new)
-    → Renamed old new f ⊎ Changed k old new f
-unfolding sharedLines Renamed Changed
-shared-from k s old new f i =
+slot-from : (k s : ℕ) (o n : List ℕ) (f : Finding) → List·Memᴰ (line k s f) (slotLines k s o n) → Gives k o n f
+unfolding slotLines sharedLines
+slot-from k s [] [] f i = absurd (List·Memᴰ·not-nil i)
+slot-from k s [] (y ∷ n) f i = subst (Gives k [] (y ∷ n)) (sym (same-finding k s f New (List·Memᴰ·eq-of-singleton i))) (refl, cons≢nil)
+slot-from k s (x ∷ o) [] f i = subst (Gives k (x ∷ o) []) (sym (same-finding k s f Gone (List·Memᴰ·eq-of-singleton i))) (cons≢nil, refl)
+slot-from k s (x ∷ o) (y ∷ n) f i =
+    let old = x ∷ o in
+    let new = y ∷ n in
+    let change = Changed (changeOf k (descriptionOf old) (descriptionOf new)) in
     ⊎-elim
     (λ m. let h = maybe-in (same (labelOf old) (labelOf new)) (line k s f) (line k s Name) m in
-    inl (h .0, same-finding k s f Name (h .1)))
-    (λ m. let g = findingOf k (descriptionOf old) (descriptionOf new) in
-    let h = maybe-in (same (descriptionOf old) (descriptionOf new)) (line k s f) (line k s g) m in
-    inr (h .0, same-finding k s f g (h .1)))
+    subst (Gives k old new) (sym (same-finding k s f Name (h .1))) (cons≢nil, cons≢nil, differ (labelOf old) (labelOf new) (h .0)))
+    (λ m. let h = maybe-in (same (descriptionOf old) (descriptionOf new)) (line k s f) (line k s change) m in
+    subst (Gives k old new) (sym (same-finding k s f change (h .1))) (cons≢nil, cons≢nil, differ (descriptionOf old) (descriptionOf new) (h .0), refl))
     (List·Memᴰ·append-cases (unlessSame (labelOf old) (labelOf new) (line k s Name)) i)
 
-pub shared-renamed : (k s : ℕ) (old new : List ℕ) (f : Finding) → Renamed old new f → List·Memᴰ (line k s f) (sharedLines k s old new)
-unfolding sharedLines Renamed
-shared-renamed k s old new f h =
-    Memᴰ·append-left {s = unlessSame (labelOf old) (labelOf new) (line k s Name)} _ (rw (h .0) (List·Memᴰ·head (ap (line k s) (h .1))))
+slot-to : (k s : ℕ) (o n : List ℕ) (f : Finding) → Gives k o n f → List·Memᴰ (line k s f) (slotLines k s o n)
+unfolding slotLines sharedLines
+slot-to k s [] [] New h = absurd (h .1 refl)
+slot-to k s [] (y ∷ n) New h = List·Memᴰ·head refl
+slot-to k s (x ∷ o) n New h = absurd (cons≢nil (h .0))
+slot-to k s [] n Gone h = absurd (h .0 refl)
+slot-to k s (x ∷ o) [] Gone h = List·Memᴰ·head refl
+slot-to k s (x ∷ o) (y ∷ n) Gone h = absurd (cons≢nil (h .1))
+slot-to k s [] n Name h = absurd (h .0 refl)
+slot-to k s (x ∷ o) [] Name h = absurd (h .1 refl)
+slot-to k s (x ∷ o) (y ∷ n) Name h =
+    Memᴰ·append-left {s = unlessSame (labelOf (x ∷ o)) (labelOf (y ∷ n)) (line k s Name)} _ (rw (same-false _ _ (h .2)) (List·Memᴰ·head refl))
+slot-to k s [] n (Changed c) h = absurd (h .0 refl)
+slot-to k s (x ∷ o) [] (Changed c) h = absurd (h .1 refl)
+slot-to k s (x ∷ o) (y ∷ n) (Changed c) h =
+    Memᴰ·append-right (unlessSame (labelOf (x ∷ o)) (labelOf (y ∷ n)) (line k s Name))
+    (rw (same-false _ _ (h .2)) (List·Memᴰ·head (ap (λ d. line k s (Changed d)) (h .3))))
 
-pub shared-changed : (k s : ℕ) (old new : List ℕ) (f : Finding) → Changed k old new f → List·Memᴰ (line k s f) (sharedLines k s old new)
-unfolding sharedLines Changed
-shared-changed k s old new f h =
-    Memᴰ·append-right (unlessSame (labelOf old) (labelOf new) (line k s Name)) (rw (h .0) (List·Memᴰ·head (ap (line k s) (h .1))))
-
--- ---- one side only, and both
-
--- the finding, of a slot's two records
-pub data Found (k : ℕ) : (old new : List ℕ) → Finding → Type 0 where
-  isNew : {y : ℕ} {new : List ℕ} → Found k [] (y ∷ new) New
-  isGone : {x : ℕ} {old : List ℕ} → Found k (x ∷ old) [] Gone
-  isRenamed : {x y : ℕ} {old new : List ℕ} {f : Finding} → Renamed (x ∷ old) (y ∷ new) f → Found k (x ∷ old) (y ∷ new) f
-  isChanged : {x y : ℕ} {old new : List ℕ} {f : Finding} → Changed k (x ∷ old) (y ∷ new) f → Found k (x ∷ old) (y ∷ new) f
-
-pub slot-found : (k s : ℕ) (old new : List ℕ) (f : Finding) → List·Memᴰ (line k s f) (slotLines k s old new) → Found k old new f
-unfolding slotLines
-slot-found k s [] [] f i = absurd (List·Memᴰ·not-nil i)
-slot-found k s [] (y ∷ new) f i = subst (Found k [] (y ∷ new)) (sym (same-finding k s f New (List·Memᴰ·eq-of-singleton i))) Found.isNew
-slot-found k s (x ∷ old) [] f i = subst (Found k (x ∷ old) []) (sym (same-finding k s f Gone (List·Memᴰ·eq-of-singleton i))) Found.isGone
-slot-found k s (x ∷ old) (y ∷ new) f i =
-    ⊎-elim Found.isRenamed Found.isChanged (shared-from k s (x ∷ old) (y ∷ new) f i)
-
-pub found-slot : (k s : ℕ) {old new : List ℕ} {f : Finding} → Found k old new f → List·Memᴰ (line k s f) (slotLines k s old new)
-unfolding slotLines
-found-slot k s Found.isNew = List·Memᴰ·head refl
-found-slot k s Found.isGone = List·Memᴰ·head refl
-found-slot k s (Found.isRenamed h) = shared-renamed k s _ _ _ h
-found-slot k s (Found.isChanged h) = shared-changed k s _ _ _ h
-
--- a line of the notice, by the finding of its slot's two records
-pub line-found : (old new : List ℕ) (k s : ℕ) (f : Finding)
-    → List·Memᴰ (line k s f) (noticeLines old new) ↔ ((k < sections) × (s < mostOf k) × Found k (recordOf k s old) (recordOf k s new) f)
-line-found old new k s f = (
-  (λ i. let h = notice-line old new k s f .0 i in (h .0, h .1, slot-found k s _ _ f (h .2))),
-  (λ h. notice-line old new k s f .1 (h .0, h .1, found-slot k s (h .2))),
+-- a line is in the notice exactly if what it says of its slot holds
+pub line-iff : (old new : List ℕ) (k s : ℕ) (f : Finding)
+    → List·Memᴰ (line k s f) (noticeLines old new) ↔ ((k < sections) × (s < mostOf k) × Gives k (recordOf k s old) (recordOf k s new) f)
+line-iff old new k s f = (
+  (λ i. let h = notice-line old new k s f .0 i in (h .0, h .1, slot-from k s _ _ f (h .2))),
+  (λ h. notice-line old new k s f .1 (h .0, h .1, slot-to k s _ _ f (h .2))),
 )

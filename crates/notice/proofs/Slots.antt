@@ -1,11 +1,15 @@
 -- The cases of a slot, as the code tests them: an empty part stands for a sheet without that slot. Assumes nothing.
-use Prim.Native.Nat.{ℕ, zero, suc}
-use mathlib.Core.Path.{_≡_, refl}
-use mathlib.Core.List.{List, [], _∷_}
+use Prim.Native.Nat.{ℕ, _+_}
+use mathlib.Core.Path.{_≡_, refl, ap, _∙_}
+use mathlib.Core.List.{List, [], _∷_, _++_}
 use native.Mathlib.Omega.{arith}
-use lib.ListN.{length}
-use Rattle.notice.specs.declared.Finding.the-variants.{New, Gone, Oper}
-use Rattle.notice.specs.Findings.{sumFinding, findingOf, line, sharedLines, slotLines}
+use lib.ListN.{length, length-append}
+use Rattle.kinds.specs.Table.{changeOf}
+use Rattle.records.specs.Sections.{labelOf, descriptionOf}
+use Rattle.notice.specs.declared.Finding.the-variants.{New, Gone, Name, Changed}
+use Rattle.notice.specs.Findings.{line, unlessSame, sharedLines, slotLines}
+use Rattle.notice.specs.Text.{renderAll}
+use Rattle.notice.proofs.Lines.{renderAll-append}
 
 module _ (k slot : ℕ) where
   pub slot-none : (old new : List ℕ) → length old ≡ 0 → length new ≡ 0 → slotLines k slot old new ≡ []
@@ -32,11 +36,17 @@ module _ (k slot : ℕ) where
   slot-shared (x ∷ old) [] n m = absurd (m refl)
   slot-shared (x ∷ old) (y ∷ new) n m = refl
 
--- every section but the first three has the sums' finding
-pub finding-last : (k : ℕ) (old new : List ℕ) → (k ≡ 0 → ⊥) → (k ≡ 1 → ⊥) → (k ≡ 2 → ⊥) → findingOf k old new ≡ Oper
-unfolding findingOf sumFinding
-finding-last zero old new a b c = absurd (a refl)
-finding-last (suc zero) old new a b c = absurd (b refl)
-finding-last (suc (suc zero)) old new a b c = absurd (c refl)
-finding-last (suc (suc (suc zero))) old new a b c = refl
-finding-last (suc (suc (suc (suc k)))) old new a b c = refl
+  -- the text of a shared slot's lines: of its labels, then of its descriptions
+  abbrev pub nameText : (old new : List ℕ) → List ℕ
+  nameText old new = renderAll (unlessSame (labelOf old) (labelOf new) (line k slot Name))
+
+  abbrev pub changedText : (old new : List ℕ) → List ℕ
+  changedText old new =
+      renderAll (unlessSame (descriptionOf old) (descriptionOf new) (line k slot (Changed (changeOf k (descriptionOf old) (descriptionOf new)))))
+
+  pub shared-text : (old new : List ℕ) → renderAll (sharedLines k slot old new) ≡ nameText old new ++ changedText old new
+  unfolding sharedLines
+  shared-text old new = renderAll-append (unlessSame (labelOf old) (labelOf new) (line k slot Name)) _
+
+  pub shared-length : (old new : List ℕ) → length (renderAll (sharedLines k slot old new)) ≡ length (nameText old new) + length (changedText old new)
+  shared-length old new = ap length (shared-text old new) ∙ length-append (nameText old new) (changedText old new)

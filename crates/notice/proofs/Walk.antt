@@ -1,14 +1,13 @@
--- The walk over a section's slots with a cursor into each sheet: the record at the cursor is the one with the slot, wherever it
--- stands, and what is still to be written makes what was to be written. Assumes nothing.
-use Prim.Native.Nat.{ℕ, zero, suc, _+_, _-_, _*_, _≤_, _<_}
+-- The walk over a section's slots with a cursor into each sheet: the record at the cursor is the one with the slot,
+-- wherever it stands, and what is still to be written makes what was to be written. Assumes nothing.
+use Prim.Native.Nat.{ℕ, suc, _+_, _-_, _≤_, _<_}
 use mathlib.Core.Path.{_≡_, refl, ap, _∙_}
-use mathlib.Core.List.{List, [], _++_}
+use mathlib.Core.List.{List, _++_}
 use native.Mathlib.Omega.{arith}
 use native.Mathlib.Nat.{sub-zero}
 use native.Mathlib.Decide.{decLt, ℕ-discrete}
-use lib.ListN.{length, take, drop, length-append, length-drop, length-take}
-use Rattle.buffer.specs.Room.{write, Wrote}
-use Rattle.buffer.proofs.Writing.{Pending, pending-start, pending-write, pending-end}
+use lib.ListN.{length, take, drop, length-drop, length-take}
+use Rattle.buffer.specs.Room.{Wrote}
 use Rattle.records.specs.Sections.{mostOf, recordSize, slotOf}
 use Rattle.records.specs.Records.{recordsIn, find, front, after}
 use Rattle.sheet.specs.Parsed.{Ordered}
@@ -17,8 +16,7 @@ use Rattle.sheet.proofs.Found.{front-find, after-find, after-ordered}
 use Rattle.notice.specs.Text.{renderAll}
 use Rattle.notice.specs.Findings.{slotLines}
 use Rattle.notice.specs.Notice.{linesFrom}
-use Rattle.notice.proofs.Lines.{renderAll-append}
-use Rattle.notice.proofs.Lengths.{slot-length, most-44}
+use Rattle.notice.proofs.Lines.{renderAll-append, Left, left-start, left-room, left-turn, left-end}
 
 -- ---- the cursor
 
@@ -61,17 +59,6 @@ module _ (k slot at : ℕ) (part r : List ℕ) (c : Cursor k slot at part) (e : 
         found = λ t h. rw n (after-find slot t (recordsIn k (drop at part)) (omega arith) ∙ c .found t (omega arith));
       }
 
--- ---- lengths
-
-pub lines-length : (k n slot : ℕ) (olds news : List (List ℕ)) → length (renderAll (linesFrom k n slot olds news)) ≤ 44 * n
-unfolding linesFrom renderAll
-lines-length k zero slot olds news = omega arith
-lines-length k (suc n) slot olds news =
-    let now = slotLines k slot (find slot olds) (find slot news) in
-    let rest = linesFrom k n (slot + 1) olds news in
-    rw (renderAll-append now rest, length-append (renderAll now) (renderAll rest))
-    (omega (arith, slot-length k slot (find slot olds) (find slot news), most-44 k, lines-length k n (slot + 1) olds news))
-
 -- ---- the loop
 
 -- the text of the slots from `slot` on
@@ -85,46 +72,39 @@ pub record Walking (k from : ℕ) (old new out₀ out : List ℕ) (at i j slot :
   pub olds : Cursor k slot i old
   pub news : Cursor k slot j new
   pub below : slot ≤ mostOf k
-  pub low : at ≤ from + 44 * slot
-  pub pending : Pending out₀ (write from (sectionText k old new) out₀) at (textFrom k slot old new) out
-  pub count : at + length (textFrom k slot old new) ≡ from + length (sectionText k old new)
+  pub left : Left from (sectionText k old new) out₀ out at (textFrom k slot old new)
 
 pub walking-start : (k from : ℕ) (old new out : List ℕ) → Ordered k 0 (recordsIn k old) → Ordered k 0 (recordsIn k new)
-    → from + 44 * mostOf k ≤ length out → Walking k from old new out out from 0 0 0
+    → from + length (sectionText k old new) ≤ length out → Walking k from old new out out from 0 0 0
 walking-start k from old new out o n h =
     record {
       olds = cursor-start k old o;
       news = cursor-start k new n;
       below = omega arith;
-      low = omega arith;
-      pending = rw (sub-zero (mostOf k))
-          (pending-start from (sectionText k old new) out
-          (omega (arith, lines-length k (mostOf k) 0 (recordsIn k old) (recordsIn k new))));
-      count = rw (sub-zero (mostOf k));
+      left = rw (sub-zero (mostOf k)) (left-start from (sectionText k old new) out h);
     }
 
--- the text of one slot, and of those behind it
-text-step : (k slot : ℕ) (old new a b : List ℕ) → slot < mostOf k → a ≡ find slot (recordsIn k old) → b ≡ find slot (recordsIn k new)
-    → textFrom k slot old new ≡ renderAll (slotLines k slot a b) ++ textFrom k (slot + 1) old new
-unfolding linesFrom
-text-step k slot old new a b h ea eb =
-    let e : mostOf k - slot ≡ suc (mostOf k - (slot + 1)) = omega arith in
-    rw (e, ea, eb) (renderAll-append (slotLines k slot (find slot (recordsIn k old)) (find slot (recordsIn k new))) _)
+module _ (k from : ℕ) (old new out₀ out : List ℕ) (at i j slot : ℕ) (a b : List ℕ) (w : Walking k from old new out₀ out at i j slot)
+    (h : slot < mostOf k) (ea : a ≡ front slot (recordsIn k (drop i old))) (eb : b ≡ front slot (recordsIn k (drop j new))) where
+  -- the text of one slot, and of those behind it
+  text-step : textFrom k slot old new ≡ renderAll (slotLines k slot a b) ++ textFrom k (slot + 1) old new
+  unfolding linesFrom
+  text-step =
+      let e : mostOf k - slot ≡ suc (mostOf k - (slot + 1)) = omega arith in
+      rw (e, cursor-finds k slot i old a (w .olds) ea, cursor-finds k slot j new b (w .news) eb)
+      (renderAll-append (slotLines k slot (find slot (recordsIn k old)) (find slot (recordsIn k new))) _)
 
-module _ (k from : ℕ) (old new out₀ out out′ : List ℕ) (at at′ i j slot : ℕ) (a b : List ℕ) (w : Walking k from old new out₀ out at i j slot)
-    (h : slot < mostOf k) (ea : a ≡ front slot (recordsIn k (drop i old))) (eb : b ≡ front slot (recordsIn k (drop j new)))
-    (wrote : Wrote at (renderAll (slotLines k slot a b)) out out′ at′) where
-  pub walking-turn : Walking k from old new out₀ out′ at′ (i + length a) (j + length b) (slot + 1)
-  walking-turn =
-      let s = text-step k slot old new a b h (cursor-finds k slot i old a (w .olds) ea) (cursor-finds k slot j new b (w .news) eb) in
-      let c : at + length (renderAll (slotLines k slot a b) ++ textFrom k (slot + 1) old new) ≡ from + length (sectionText k old new) = rw s at (w .count) in
+  pub walking-room : at + length (renderAll (slotLines k slot a b)) ≤ length out
+  walking-room = left-room from (sectionText k old new) out₀ out at (textFrom k slot old new) (w .left) (renderAll (slotLines k slot a b)) (textFrom k (slot + 1) old new) text-step
+
+  pub walking-turn : (out′ : List ℕ) (at′ : ℕ) → Wrote at (renderAll (slotLines k slot a b)) out out′ at′
+      → Walking k from old new out₀ out′ at′ (i + length a) (j + length b) (slot + 1)
+  walking-turn out′ at′ wrote =
       record {
         olds = cursor-turn k slot i old a (w .olds) ea;
         news = cursor-turn k slot j new b (w .news) eb;
         below = omega arith;
-        low = let l = w .low in omega (arith, wrote .next, slot-length k slot a b, most-44 k);
-        pending = pending-write out₀ _ at at′ _ (renderAll (slotLines k slot a b)) _ out out′ s (wrote .next) (w .pending) (wrote .left);
-        count = omega (arith, wrote .next, rw (length-append (renderAll (slotLines k slot a b)) (textFrom k (slot + 1) old new)) at c);
+        left = left-turn from (sectionText k old new) out₀ out at (textFrom k slot old new) (w .left) (renderAll (slotLines k slot a b)) (textFrom k (slot + 1) old new) out′ at′ text-step wrote;
       }
 
 pub walking-end : (k from : ℕ) (old new out₀ out : List ℕ) (at i j slot : ℕ) → Walking k from old new out₀ out at i j slot → mostOf k ≤ slot
@@ -132,9 +112,4 @@ pub walking-end : (k from : ℕ) (old new out₀ out : List ℕ) (at i j slot : 
 unfolding linesFrom renderAll
 walking-end k from old new out₀ out at i j slot w h =
     let e : mostOf k - slot ≡ 0 = omega arith in
-    let r : textFrom k slot old new ≡ [] = rw e in
-    let c : at + 0 ≡ from + length (sectionText k old new) = rw r at (w .count) in
-    record {
-      next = omega arith;
-      left = pending-end out₀ (write from (sectionText k old new) out₀) at out (rw r at (w .pending));
-    }
+    left-end from (sectionText k old new) out₀ out at _ (w .left) (rw e)

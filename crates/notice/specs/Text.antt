@@ -1,56 +1,59 @@
--- The text of a notice line (01, "The notice").
+-- The text of a notice line.
 use Prim.Native.Nat.{ℕ, zero, suc, _+_, _/_, _%_, _^_}
 use mathlib.Core.Bool.{cond}
 use mathlib.Core.List.{List, [], _∷_, _++_}
 use lib.Dec.{ltb}
+use Rattle.lut.specs.declared.Input.{Input}
+use Rattle.lut.specs.declared.Input.the-variants.{Nothing, Sample, Samples, Sources}
+use Rattle.kinds.specs.Table.{nameOf}
+use Rattle.kinds.specs.declared.Change.{Change}
+use Rattle.kinds.specs.declared.Change.the-variants.{Oper, Word, Altr}
 use Rattle.notice.specs.declared.Finding.{Finding}
-use Rattle.notice.specs.declared.Finding.the-variants.{New, Gone, Name, Oper, Word, AltrOne, AltrTwo}
+use Rattle.notice.specs.declared.Finding.the-variants.{New, Gone, Name, Changed}
 use Rattle.notice.specs.declared.Line.{Line}
 
--- a capital hex digit: '0' is 48, 'A' is 65
+-- a hex digit, capitals: '0' is 48, 'A' is 65 [N8]
 abbrev pub hexDigit : ℕ → ℕ
 hexDigit d = cond (ltb d 10) (48 + d) (55 + d)
 
--- the lowest n hex digits of a number, the highest first; "eight capital hex digits"
+-- the lowest n hex digits of a number, the highest first [N8]
 abbrev pub hex : (n x : ℕ) → List ℕ
 hex zero x = []
 hex (suc n) x = hexDigit (x / 16 ^ n % 16) ∷ hex n x
 
--- "space, slot in two decimal digits, space"
+-- a space and n hex digits [N8]
+abbrev pub numberText : (n x : ℕ) → List ℕ
+numberText n x = 32 ∷ hex n x
+
+-- the slot in two decimal digits between two spaces [N3]
 abbrev pub slotText : ℕ → List ℕ
 slotText s = 32 ∷ (48 + s / 10) ∷ (48 + s % 10) ∷ 32 ∷ []
 
--- "TERM, RANG, EDGE or SUMS", by the section's number
-abbrev pub kindText : (section : ℕ) → List ℕ
-kindText zero = 84 ∷ 69 ∷ 82 ∷ 77 ∷ []
-kindText (suc zero) = 82 ∷ 65 ∷ 78 ∷ 71 ∷ []
-kindText (suc (suc zero)) = 69 ∷ 68 ∷ 71 ∷ 69 ∷ []
-kindText (suc (suc (suc k))) = 83 ∷ 85 ∷ 77 ∷ 83 ∷ []
+-- what ALTR shows: samples in eight hex digits, the earlier first; sources never, since sums have OPER [N8, G8]
+abbrev pub inputText : Input → List ℕ
+inputText Nothing = []
+inputText (Sample s) = numberText 8 s
+inputText (Samples earlier later) = numberText 8 earlier ++ numberText 8 later
+inputText (Sources s) = numberText 4 s
 
--- "ALTR is followed by a space and eight capital hex digits; for an edge, earlier and later sample, a space between"
-abbrev pub altrText : List ℕ
-altrText = 65 ∷ 76 ∷ 84 ∷ 82 ∷ 32 ∷ []
+-- a change's verdict and a line feed; with ALTR it is an *alteration line*, the buyer's term [N6, N8, G10]
+abbrev pub changeText : Change → List ℕ
+changeText Oper = 79 ∷ 80 ∷ 69 ∷ 82 ∷ 10 ∷ []
+changeText Word = 87 ∷ 79 ∷ 82 ∷ 68 ∷ 10 ∷ []
+changeText (Altr input) = (65 ∷ 76 ∷ 84 ∷ 82 ∷ []) ++ inputText input ++ (10 ∷ [])
 
-abbrev pub altrOneText : ℕ → List ℕ
-altrOneText s = altrText ++ hex 8 s ++ (10 ∷ [])
-
-abbrev pub altrTwoText : ℕ → ℕ → List ℕ
-altrTwoText e l = altrText ++ hex 8 e ++ (32 ∷ []) ++ hex 8 l ++ (10 ∷ [])
-
--- the finding's word, a telling sample after ALTR, and LF
+-- a verdict and a line feed [N3, N4, N5, N6, L2]
 abbrev pub findingText : Finding → List ℕ
 findingText New = 78 ∷ 69 ∷ 87 ∷ 10 ∷ []
 findingText Gone = 71 ∷ 79 ∷ 78 ∷ 69 ∷ 10 ∷ []
 findingText Name = 78 ∷ 65 ∷ 77 ∷ 69 ∷ 10 ∷ []
-findingText Oper = 79 ∷ 80 ∷ 69 ∷ 82 ∷ 10 ∷ []
-findingText Word = 87 ∷ 79 ∷ 82 ∷ 68 ∷ 10 ∷ []
-findingText (AltrOne s) = altrOneText s
-findingText (AltrTwo e l) = altrTwoText e l
+findingText (Changed change) = changeText change
 
--- "plain lines ended by LF, no header"
+-- a line: the section's four letters, the slot, the verdict [N1, N3]
 unfoldable pub render : Line → List ℕ
-render l = kindText (l .section) ++ slotText (l .slot) ++ findingText (l .finding)
+render l = nameOf (l .section) ++ slotText (l .slot) ++ findingText (l .finding)
 
+-- lines one behind the other, nothing above or between them [N1]
 unfoldable pub renderAll : List Line → List ℕ
 renderAll [] = []
 renderAll (l ∷ ls) = render l ++ renderAll ls

@@ -1,27 +1,25 @@
 // The alteration notice: what changed between two set-up sheets, old and new, line by line.
-// Promises: for any two byte strings and any room the answer and the room equal the rendering of the structured lines, or a refusal that changes nothing.
-// Rests on: buffer (room, refusals), sheet (records by slot), and the telling of term, range and edge.
-mod compare;
+// Promises: over any bytes and any room, the rendered lines and their length, or a refusal that changes nothing.
+// Rests on: kinds (names, what is found of two descriptions), sheet (verdict, sections), records, buffer (lent room).
 mod put;
 mod text;
 
 ghost use Rattle.notice.specs.Notice.{NoticeGiven};
-use buffer::Verdict;
+use kinds::Change;
+
+// The most bytes that a notice has (proofs/Lengths, at-most): the room in which it is built before its length is known.
+pub const LONGEST: usize = 1756;
 
 // What a line says of a slot.
 pub enum Finding {
     New,
     Gone,
     Name,
-    Oper,
-    Word,
-    // ALTR with a telling sample.
-    AltrOne(u32),
-    // ALTR with an earlier and a later sample.
-    AltrTwo(u32, u32),
+    // The descriptions differ.
+    Changed(Change),
 }
 
-// A line of the notice. A section is known by its number: 0 terms, 1 ranges, 2 edges, 3 sums.
+// A line of the notice. A section is known by its number.
 pub struct Line {
     pub section: usize,
     pub slot: u8,
@@ -40,20 +38,21 @@ pub enum Noticed {
     Short(usize),
 }
 
-// The notice of two sheets, written at the start of `out`; the old sheet speaks first, and nothing is written unless all of it is.
+// The notice of two sheets, written at the start of `out`; the old sheet speaks first, and nothing is written unless
+// all of it is.
 pub fn notice(old: &[u8], new: &[u8], out: &mut [u8]) -> Noticed
     ensures { λ r. ⌜ NoticeGiven (now (old .entry)) (now (new .entry)) (now (out .entry)) r (now (out .exit)) ⌝ }
 {
-    let first = sheet::check(old);
-    if let Verdict::Refused(number, place) = first {
-        return Noticed::Old(number, place);
+    let first = sheet::judge_parts(old);
+    if first.refusal != 0 {
+        return Noticed::Old(first.refusal, first.place);
     }
-    let second = sheet::check(new);
-    if let Verdict::Refused(number, place) = second {
-        return Noticed::New(number, place);
+    let second = sheet::judge_parts(new);
+    if second.refusal != 0 {
+        return Noticed::New(second.refusal, second.place);
     }
-    let mut room = [0u8; 2728];
-    let n = put::put_sections(&mut room, old, new);
+    let mut room = [0u8; LONGEST];
+    let n = put::put_sections(&mut room, old, new, first, second);
     if out.len() < n {
         return Noticed::Short(n);
     }

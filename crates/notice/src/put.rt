@@ -1,10 +1,11 @@
-// The lines of slots and sections, written into room that suffices, from an index on.
+// The lines of slots and sections, written from an index on into room that suffices.
 ghost use mathlib.Core.Path.{_≡_};
-ghost use Prim.Native.Nat.{_+_, _*_, _≤_, _<_};
+ghost use Prim.Native.Nat.{_+_, _≤_};
 ghost use lib.ListN.{length};
 ghost use Rattle.buffer.specs.Room.{Wrote};
 ghost use Rattle.buffer.specs.declared.Verdict.the-variants.{Accepted};
 ghost use Rattle.records.specs.Sections.{mostOf};
+ghost use Rattle.sheet.specs.Parts.{judgedOf};
 ghost use Rattle.sheet.specs.Reading.{verdict};
 ghost use Rattle.records.specs.Records.{recordsIn};
 ghost use Rattle.sheet.specs.Parsed.{Ordered};
@@ -13,12 +14,13 @@ ghost use Rattle.notice.specs.Findings.{unlessSame, sharedLines, slotLin
 ghost use Rattle.notice.specs.Notice.{linesFrom, noticeText};
 use crate::Finding;
 use crate::Line;
-use crate::compare::finding_on;
 use crate::text::put_line;
+use kinds::SECTIONS;
+use sheet::Judged;
 
 // A line, unless two parts have the same bytes.
 fn put_unless_same(out: &mut [u8], at: usize, old: &[u8], new: &[u8], line: Line) -> usize
-    requires { ⌜ at + 31 ≤ length (now out) ⌝ }
+    requires { ⌜ at + length (renderAll (unlessSame (now old) (now new) line)) ≤ length (now out) ⌝ }
     ensures { λ r. ⌜ Wrote at (renderAll (unlessSame (now (old .entry)) (now (new .entry)) line)) (now (out .entry)) (now (out .exit)) r ⌝ }
 {
     if buffer::same_bytes(old, new) {
@@ -30,7 +32,7 @@ fn put_unless_same(out: &mut [u8], at: usize, old: &[u8], new: &[u8], line: Line
 
 // The lines of a slot that both sheets have: of its label, then of its description.
 fn put_shared(out: &mut [u8], at: usize, section: usize, slot: u8, old: &[u8], new: &[u8]) -> usize
-    requires { ⌜ at + 44 ≤ length (now out) ⌝ }
+    requires { ⌜ at + length (renderAll (sharedLines section slot (now old) (now new))) ≤ length (now out) ⌝ }
     ensures { λ r. ⌜ Wrote at (renderAll (sharedLines section slot (now (old .entry)) (now (new .entry)))) (now (out .entry)) (now (out .exit)) r ⌝ }
 {
     let name = Line {
@@ -44,14 +46,14 @@ fn put_shared(out: &mut [u8], at: usize, section: usize, slot: u8, old: &[u8], n
     let change = Line {
         section,
         slot,
-        finding: finding_on(section, old_description, new_description),
+        finding: Finding::Changed(kinds::change_of(section, old_description, new_description)),
     };
     put_unless_same(out, next, old_description, new_description, change)
 }
 
 // The lines of a slot. An empty part stands for a sheet that has no such slot.
 fn put_slot(out: &mut [u8], at: usize, section: usize, slot: u8, old: &[u8], new: &[u8]) -> usize
-    requires { ⌜ at + 44 ≤ length (now out) ⌝ }
+    requires { ⌜ at + length (renderAll (slotLines section slot (now old) (now new))) ≤ length (now out) ⌝ }
     ensures { λ r. ⌜ Wrote at (renderAll (slotLines section slot (now (old .entry)) (now (new .entry)))) (now (out .entry)) (now (out .exit)) r ⌝ }
 {
     if old.len() == 0 {
@@ -78,7 +80,7 @@ fn put_slot(out: &mut [u8], at: usize, section: usize, slot: u8, old: &[u8], new
 
 // The lines of every slot of a section, by one walk over both sheets' records.
 fn put_section(out: &mut [u8], from: usize, section: usize, old: &[u8], new: &[u8]) -> usize
-    requires { ⌜ from + 44 * mostOf section ≤ length (now out) ⌝ }
+    requires { ⌜ from + length (renderAll (linesFrom section (mostOf section) 0 (recordsIn section (now old)) (recordsIn section (now new)))) ≤ length (now out) ⌝ }
     requires { ⌜ Ordered section 0 (recordsIn section (now old)) ⌝ }
     requires { ⌜ Ordered section 0 (recordsIn section (now new)) ⌝ }
     ensures { λ r. ⌜ Wrote from (renderAll (linesFrom section (mostOf section) 0 (recordsIn section (now (old .entry))) (recordsIn section (now (new .entry))))) (now (out .entry)) (now (out .exit)) r ⌝ }
@@ -99,18 +101,30 @@ fn put_section(out: &mut [u8], from: usize, section: usize, old: &[u8], new: &[u
     at
 }
 
-// The lines of every section, of two sheets that are accepted. A slot's lines have at most 44 bytes, and a sheet has 62 slots.
-pub(crate) fn put_sections(out: &mut [u8], old: &[u8], new: &[u8]) -> usize
-    requires { ⌜ 2728 ≤ length (now out) ⌝ }
-    requires { ⌜ verdict (now old) ≡ Accepted ⌝ }
-    requires { ⌜ verdict (now new) ≡ Accepted ⌝ }
+// The lines of every section of two sheets, which are accepted, by where their sections lie.
+pub(crate) fn put_sections(
+    out: &mut [u8],
+    old: &[u8],
+    new: &[u8],
+    olds: Judged,
+    news: Judged,
+) -> usize
+    requires { ⌜ length (noticeText (now old) (now new)) ≤ length (now out) ⌝ }
+    requires { ⌜ (verdict (now old) ≡ Accepted) × (olds ≡ judgedOf (now old)) ⌝ }
+    requires { ⌜ (verdict (now new) ≡ Accepted) × (news ≡ judgedOf (now new)) ⌝ }
     ensures { λ r. ⌜ Wrote 0 (noticeText (now (old .entry)) (now (new .entry))) (now (out .entry)) (now (out .exit)) r ⌝ }
 {
     let mut at: usize = 0;
     let mut section: usize = 0;
-    while section < records::SECTIONS {
-        let a = sheet::section_unchecked(old, section);
-        let b = sheet::section_unchecked(new, section);
+    while section < SECTIONS {
+        let a = buffer::prefix(
+            buffer::suffix(old, olds.starts[section]),
+            olds.sizes[section],
+        );
+        let b = buffer::prefix(
+            buffer::suffix(new, news.starts[section]),
+            news.sizes[section],
+        );
         at = put_section(out, at, section, a, b);
         section += 1;
     }

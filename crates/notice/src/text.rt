@@ -1,11 +1,18 @@
-// The text of a notice line, written into lent room from an index on.
+// The text of a notice line, written into lent room from an index on. Each writer asks that its text fits.
 ghost use mathlib.Core.Path.{_≡_};
 ghost use Prim.Native.Nat.{_+_, _≤_, _<_};
 ghost use lib.ListN.{length};
 ghost use Rattle.buffer.specs.Room.{Wrote};
-ghost use Rattle.notice.specs.Text.{hexDigit, hex, slotText, kindText, findingText, altrOneText, altrTwoText, render};
+ghost use Rattle.notice.specs.Text.{hexDigit, hex, numberText, slotText, inputText, changeText, findingText, render};
 use crate::Finding;
 use crate::Line;
+use kinds::Change;
+use lut::Input;
+
+// The hex digits of a sample, which has 32 lines, and of sixteen sources.
+const SAMPLE_DIGITS: usize = 8;
+
+const SOURCES_DIGITS: usize = 4;
 
 // A text that fits, from `at` on; answers the index behind it.
 pub(crate) fn put(out: &mut [u8], at: usize, text: &[u8]) -> usize
@@ -42,6 +49,17 @@ fn hex_digits(x: u32) -> [u8; 8]
     ]
 }
 
+// A space and the lowest hex digits, so many of the eight.
+fn put_number(out: &mut [u8], at: usize, digits: usize, x: u32) -> usize
+    requires { ⌜ digits ≤ 8 ⌝ }
+    requires { ⌜ at + length (numberText digits x) ≤ length (now out) ⌝ }
+    ensures { λ r. ⌜ Wrote at (numberText digits x) (now (out .entry)) (now (out .exit)) r ⌝ }
+{
+    let all = hex_digits(x);
+    let next = put(out, at, b" ");
+    put(out, next, &all[8 - digits..8])
+}
+
 // The slot in two decimal digits, between spaces.
 fn slot_digits(slot: u8) -> [u8; 4]
     ensures { λ r. ⌜ r ≡ slotText slot ⌝ }
@@ -49,68 +67,60 @@ fn slot_digits(slot: u8) -> [u8; 4]
     [b' ', 48 + slot / 10, 48 + slot % 10, b' ']
 }
 
-fn put_kind(out: &mut [u8], at: usize, section: usize) -> usize
-    requires { ⌜ at + 4 ≤ length (now out) ⌝ }
-    ensures { λ r. ⌜ Wrote at (kindText section) (now (out .entry)) (now (out .exit)) r ⌝ }
+// The input that tells two descriptions apart.
+fn put_input(out: &mut [u8], at: usize, input: Input) -> usize
+    requires { ⌜ at + length (inputText input) ≤ length (now out) ⌝ }
+    ensures { λ r. ⌜ Wrote at (inputText input) (now (out .entry)) (now (out .exit)) r ⌝ }
 {
-    match section {
-        0 => put(out, at, b"TERM"),
-        1 => put(out, at, b"RANG"),
-        2 => put(out, at, b"EDGE"),
-        _ => put(out, at, b"SUMS"),
+    match input {
+        Input::Nothing => at,
+        Input::Sample(sample) => put_number(out, at, SAMPLE_DIGITS, sample),
+        Input::Samples(earlier, later) => {
+            let next = put_number(out, at, SAMPLE_DIGITS, earlier);
+            put_number(out, next, SAMPLE_DIGITS, later)
+        }
+        Input::Sources(sources) => put_number(out, at, SOURCES_DIGITS, sources),
     }
 }
 
-// ALTR with one telling sample.
-fn put_altr_one(out: &mut [u8], at: usize, sample: u32) -> usize
-    requires { ⌜ at + 14 ≤ length (now out) ⌝ }
-    ensures { λ r. ⌜ Wrote at (altrOneText sample) (now (out .entry)) (now (out .exit)) r ⌝ }
+// What is said of a changed description, and the line's end.
+fn put_change(out: &mut [u8], at: usize, change: Change) -> usize
+    requires { ⌜ at + length (changeText change) ≤ length (now out) ⌝ }
+    ensures { λ r. ⌜ Wrote at (changeText change) (now (out .entry)) (now (out .exit)) r ⌝ }
 {
-    let digits = hex_digits(sample);
-    let at1 = put(out, at, b"ALTR ");
-    let at2 = put(out, at1, &digits);
-    put(out, at2, b"\n")
+    match change {
+        Change::Oper => put(out, at, b"OPER\n"),
+        Change::Word => put(out, at, b"WORD\n"),
+        Change::Altr(input) => {
+            let at1 = put(out, at, b"ALTR");
+            let at2 = put_input(out, at1, input);
+            put(out, at2, b"\n")
+        }
+    }
 }
 
-// ALTR with an earlier and a later sample.
-fn put_altr_two(out: &mut [u8], at: usize, earlier: u32, later: u32) -> usize
-    requires { ⌜ at + 23 ≤ length (now out) ⌝ }
-    ensures { λ r. ⌜ Wrote at (altrTwoText earlier later) (now (out .entry)) (now (out .exit)) r ⌝ }
-{
-    let first = hex_digits(earlier);
-    let second = hex_digits(later);
-    let at1 = put(out, at, b"ALTR ");
-    let at2 = put(out, at1, &first);
-    let at3 = put(out, at2, b" ");
-    let at4 = put(out, at3, &second);
-    put(out, at4, b"\n")
-}
-
-// A finding, with what belongs to it and the line's end.
+// A finding and the line's end.
 fn put_finding(out: &mut [u8], at: usize, finding: Finding) -> usize
-    requires { ⌜ at + 23 ≤ length (now out) ⌝ }
+    requires { ⌜ at + length (findingText finding) ≤ length (now out) ⌝ }
     ensures { λ r. ⌜ Wrote at (findingText finding) (now (out .entry)) (now (out .exit)) r ⌝ }
 {
     match finding {
         Finding::New => put(out, at, b"NEW\n"),
         Finding::Gone => put(out, at, b"GONE\n"),
         Finding::Name => put(out, at, b"NAME\n"),
-        Finding::Oper => put(out, at, b"OPER\n"),
-        Finding::Word => put(out, at, b"WORD\n"),
-        Finding::AltrOne(sample) => put_altr_one(out, at, sample),
-        Finding::AltrTwo(earlier, later) => put_altr_two(out, at, earlier, later),
+        Finding::Changed(change) => put_change(out, at, change),
     }
 }
 
-// A whole line, at most 31 bytes.
+// A whole line: the section's letters, the slot, the finding.
 pub(crate) fn put_line(out: &mut [u8], at: usize, line: Line) -> usize
-    requires { ⌜ at + 31 ≤ length (now out) ⌝ }
+    requires { ⌜ at + length (render line) ≤ length (now out) ⌝ }
     ensures { λ r. ⌜ Wrote at (render line) (now (out .entry)) (now (out .exit)) r ⌝ }
 {
-    let section = line.section;
+    let name = kinds::row_of(line.section).name;
     let finding = line.finding;
     let digits = slot_digits(line.slot);
-    let at1 = put_kind(out, at, section);
+    let at1 = put(out, at, &name);
     let at2 = put(out, at1, &digits);
     put_finding(out, at2, finding)
 }

@@ -11,8 +11,8 @@ use Rattle.lines.specs.Gather.{pack, gathered, scattered}
 use Rattle.lines.proofs.Digit.{bit-lt, next-lines}
 use Rattle.lines.proofs.Ones.{ones-in}
 use Rattle.lines.proofs.Scattering.{gather-scatter}
-use Rattle.lut.specs.Table.{answerAt}
-use Rattle.range.specs.Words.{tableFor, wordsDown, chainWords}
+use Rattle.lut.specs.Table.{answerAt, down}
+use Rattle.range.specs.Words.{tableFor, pairWord, chainWords}
 use Rattle.range.specs.Model.{carryAfter, carryFrom, chainCarry}
 use Rattle.range.proofs.Tables.{table-down}
 
@@ -48,7 +48,7 @@ carry-lt (suc d) c s hc hs = omega arith
 
 -- the sum over n lines from line i up
 pub adder : (mask spread sample n i c : ℕ) → i + n ≤ 32 → c < 2
-    → carryFrom (wordsDown mask spread 16) sample n i c
+    → carryFrom (down (pairWord mask spread) 16) sample n i c
     ≡ (gathered n (sample / 2 ^ i) (mask / 2 ^ i) + gathered n (spread / 2 ^ i) (mask / 2 ^ i) + c) / 2 ^ onesIn n (mask / 2 ^ i)
 unfolding carryFrom gathered onesIn
 adder mask spread sample zero i c hi hc = sym (div-one (0 + 0 + c) ∙ (let z : 0 + 0 + c ≡ c = omega arith in z))
@@ -60,9 +60,9 @@ adder mask spread sample (suc n) i c hi hc =
     let hv = bit-lt (sample / 2 ^ i) in
     let hb = bit-lt (spread / 2 ^ i) in
     let hd = bit-lt (mask / 2 ^ i) in
-    let after : carryAfter (wordsDown mask spread 16) sample i c ≡ out
+    let after : carryAfter (down (pairWord mask spread) 16) sample i c ≡ out
     = ap (λ (t : ℕ). choose (line t v) v c) (table-down mask spread i (omega arith)) ∙ line-carry d bit v c hd hb hv hc in
-    ap (carryFrom (wordsDown mask spread 16) sample n (suc i)) after
+    ap (carryFrom (down (pairWord mask spread) 16) sample n (suc i)) after
     ∙ adder mask spread sample n (suc i) out (omega arith) (carry-lt d c (v + bit + c) hc (omega arith))
     ∙ rw (← next-lines sample i, ← next-lines spread i, ← next-lines mask i)
     (line-sum d v bit c (gathered n (sample / 2 ^ i / 2) (mask / 2 ^ i / 2)) (gathered n (spread / 2 ^ i / 2) (mask / 2 ^ i / 2))

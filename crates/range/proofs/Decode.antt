@@ -12,12 +12,12 @@ use lib.ListN.{length, take, drop}
 use lib.Pow.{pow-pos}
 use Rattle.lines.specs.Line.{line}
 use Rattle.lines.specs.Gather.{scattered}
-use Rattle.lines.specs.Same.{same}
+use Rattle.buffer.specs.Same.{same}
 use Rattle.lines.proofs.Truth.{both-true}
 use Rattle.lines.proofs.Digit.{bit-lt, from-lines, from-lines-lt, lines-not}
 use Rattle.lines.proofs.Ones.{ones-in}
 use Rattle.lines.proofs.Scattering.{scatter-lt, scatter-unmasked, gather-back}
-use Rattle.lines.proofs.Compare.{same-true, same-equal}
+use Rattle.buffer.proofs.Compare.{same-true, same-equal}
 use Rattle.lut.specs.Table.{oneIf}
 use Rattle.range.specs.declared.Range.{Range}
 use Rattle.range.specs.declared.ReadRange.{ReadRange}
@@ -36,10 +36,6 @@ range-path a b p q r = λ i. record { lower = p i; upper = q i; mask = r i }
 pub one-if-lt : (b : Bool) → oneIf b < 2
 one-if-lt true = omega arith
 one-if-lt false = omega arith
-
-pub lines-with-lt : (table : ℕ) (chain : List ℕ) → linesWith table chain < 2 ^ 32
-unfolding linesWith
-lines-with-lt table chain = from-lines-lt 32 (λ i. oneIf (eqb (tableAt chain i) table)) (λ i. one-if-lt (eqb (tableAt chain i) table))
 
 -- ---- a chain's lines
 

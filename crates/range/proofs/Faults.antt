@@ -1,4 +1,5 @@
--- The refusal numbers of a description say what 01's table says, and there is none exactly when the range is accepted. Assumes nothing.
+-- The refusal numbers of a description say what the rules say of them, and there is none exactly when the range is
+-- accepted [F6, F7, F8]. Assumes nothing.
 use mathlib.Core.Path.{_≡_, refl}
 use mathlib.Core.Bool.{Bool, true, false, cond}
 use mathlib.Core.Logic.{_↔_}

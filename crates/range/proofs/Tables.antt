@@ -2,17 +2,18 @@
 use mathlib.Core.Path.{_≡_, refl, sym, ap, ap₂, _∙_}
 use mathlib.Core.List.{List, [], _++_}
 use Prim.Native.Nat.{ℕ, zero, suc, _+_, _-_, _*_, _/_, _%_, _^_, _<_}
-use native.Mathlib.Nat.{le-of-suc-le-suc, not-suc-le-zero, div-add-mod'}
+use native.Mathlib.Nat.{div-add-mod'}
 use native.Mathlib.Decide.{decLt}
 use native.Mathlib.Omega.{arith}
 use lib.Dec.{lit<}
-use lib.ListN.{length, getD, take, drop, length-append, length-take, length-drop, take-append-drop, List·getD-eq-default, List·getD-append}
+use lib.ListN.{length, getD, take, drop, length-append, length-take, length-drop, take-append-drop, List·getD-append}
 use lib.Seq.{take-at, drop-at, ext-getD, getD-append-add}
 use Rattle.lines.specs.Line.{line, choose}
 use Rattle.lines.specs.Gather.{scattered}
-use Rattle.lut.specs.Table.{high, low, wordOf}
+use Rattle.lut.specs.Table.{high, low, wordOf, down}
 use Rattle.lut.proofs.Halves.{high-half, low-half, word-lt}
-use Rattle.range.specs.Words.{tableFor, lineTable, pairWord, wordsDown, chainWords, lowerValue, upperValue, lowerChain, upperChain, rangeWords, sentWords}
+use Rattle.lut.proofs.Down.{length-down, down-at, down-lt}
+use Rattle.range.specs.Words.{tableFor, lineTable, pairWord, chainWords, lowerValue, upperValue, lowerChain, upperChain, rangeWords, sentWords}
 use Rattle.range.specs.Model.{tableAt, lowerTable, upperTable}
 
 -- a table has sixteen bits
@@ -26,23 +27,11 @@ table-lt mask spread i = table-for-lt (line mask i) (line spread i)
 
 -- ---- counts
 
-length-down : (mask spread n : ℕ) → length (wordsDown mask spread n) ≡ n
-unfolding wordsDown
-length-down mask spread zero = refl
-length-down mask spread (suc n) = ap suc (length-down mask spread n)
-
 pub length-chain : (mask value : ℕ) → length (chainWords mask value) ≡ 16
 unfolding chainWords
-length-chain mask value = length-down mask (scattered 32 value mask) 16
+length-chain mask value = length-down (pairWord mask (scattered 32 value mask)) 16
 
 -- ---- the words in their places
-
--- the words come from the highest line down
-pub word-at : (mask spread n k : ℕ) → k < n → getD (wordsDown mask spread n) k 0 ≡ pairWord mask spread (n - suc k)
-unfolding wordsDown
-word-at mask spread zero k h = absurd (not-suc-le-zero h)
-word-at mask spread (suc n) zero h = ap (pairWord mask spread) (omega arith)
-word-at mask spread (suc n) (suc k) h = word-at mask spread n k (le-of-suc-le-suc h) ∙ ap (pairWord mask spread) (omega arith)
 
 -- sixteen words that are those of a chain, place by place, are the chain
 pub chain-ext : (mask value : ℕ) (words : List ℕ) → length words ≡ 16
@@ -50,23 +39,17 @@ pub chain-ext : (mask value : ℕ) (words : List ℕ) → length words ≡ 16
 unfolding chainWords
 chain-ext mask value words len e =
     let spread = scattered 32 value mask in
-    ext-getD 0 words (wordsDown mask spread 16) (len ∙ sym (length-down mask spread 16))
-    (λ k l. let h : k < 16 = omega arith in e k h ∙ sym (word-at mask spread 16 k h ∙ ap (pairWord mask spread) (omega arith)))
+    ext-getD 0 words (down (pairWord mask spread) 16) (len ∙ sym (length-down (pairWord mask spread) 16))
+    (λ k l. let h : k < 16 = omega arith in e k h ∙ sym (down-at (pairWord mask spread) 16 k h ∙ ap (pairWord mask spread) (omega arith)))
 
 -- every word has 32 bits
 pub chain-fits : (mask value k : ℕ) → getD (chainWords mask value) k 0 < 2 ^ 32
 unfolding chainWords
-chain-fits mask value k = go (decLt k 16)
+chain-fits mask value = down-lt (pairWord mask spread) (2 ^ 32) (lit< tt) (λ p.
+    word-lt (lineTable mask spread (p * 2 + 1)) (lineTable mask spread (p * 2)) (table-lt mask spread (p * 2 + 1)) (table-lt mask spread (p * 2))) 16
   where
     spread : ℕ
     spread = scattered 32 value mask
-
-    go : Dec (k < 16) → getD (wordsDown mask spread 16) k 0 < 2 ^ 32
-    go (yes h) =
-        rw (word-at mask spread 16 k h)
-        (word-lt (lineTable mask spread ((16 - suc k) * 2 + 1)) (lineTable mask spread ((16 - suc k) * 2)) (table-lt mask spread ((16 - suc k) * 2 + 1))
-        (table-lt mask spread ((16 - suc k) * 2)))
-    go (no h) = rw (List·getD-eq-default (wordsDown mask spread 16) 0 {n = k} (omega (arith, length-down mask spread 16))) (lit< tt)
 
 -- ---- the tables of the lines
 
@@ -83,10 +66,10 @@ half mask spread i (suc zero) p w e h ew =
 half mask spread i (suc (suc d)) p w e h ew = absurd (omega arith)
 
 -- what the model asks at line i is the table that was written for line i
-pub table-down : (mask spread i : ℕ) → i < 32 → tableAt (wordsDown mask spread 16) i ≡ lineTable mask spread i
+pub table-down : (mask spread i : ℕ) → i < 32 → tableAt (down (pairWord mask spread) 16) i ≡ lineTable mask spread i
 table-down mask spread i h =
     half mask spread i (i % 2) (i / 2) _ (omega arith) (omega arith)
-    (word-at mask spread 16 (15 - i / 2) (omega arith) ∙ ap (pairWord mask spread) (omega arith))
+    (down-at (pairWord mask spread) 16 (15 - i / 2) (omega arith) ∙ ap (pairWord mask spread) (omega arith))
 
 pub table-at : (mask value i : ℕ) → i < 32 → tableAt (chainWords mask value) i ≡ lineTable mask (scattered 32 value mask) i
 unfolding chainWords

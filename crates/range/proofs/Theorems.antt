@@ -1,58 +1,75 @@
--- The theorems on ranges, each under the sentence of the demands or of 01 that it is. Assumes nothing.
-use mathlib.Core.Path.{_≡_, refl, sym, ap, subst, _∙_}
-use mathlib.Core.List.{List}
+-- What is promised of ranges. What cannot matter in a range and what tells two apart is in range_telling. Assumes
+-- nothing.
+use mathlib.Core.Path.{_≡_, refl, sym, ap, _∙_}
+use mathlib.Core.List.{List, [], _∷_}
 use mathlib.Core.Logic.{_↔_}
 use Prim.Native.Nat.{ℕ}
+use native.Mathlib.Omega.{arith}
+use lib.Dec.{lit<}
+use lib.ListN.{length}
+use Rattle.buffer.specs.Bytes.{Bytes}
+use Rattle.buffer.specs.Fields.{fieldBytes}
+use Rattle.buffer.proofs.FieldLaws.{fields-read, fields-written, fit₃, same₃}
+use Rattle.range.specs.Description.{size, fromBytes, toBytes}
+use Rattle.range.proofs.Carry.{upper-fits}
 use Rattle.lut.specs.Answer.{hitOrMiss}
 use Rattle.lut.specs.Telling.{HitAlike}
-use Rattle.lut.specs.declared.Telling.{Telling}
-use Rattle.lut.specs.declared.Telling.the-variants.{Two}
+use Rattle.lut.specs.declared.Input.the-variants.{Sample}
+use Rattle.lut.proofs.Asked.{alike-on-samples}
 use Rattle.lut.proofs.Runs.{run-needed}
 use Rattle.range.specs.declared.Range.{Range}
 use Rattle.range.specs.declared.ReadRange.{ReadRange}
 use Rattle.range.specs.declared.ReadRange.the-variants as ReadRange
-use Rattle.range.specs.Rule.{rangeHit, hitOf, RangeAccepted, Accepted}
-use Rattle.range.specs.Words.{sentWords, wordsOf}
+use Rattle.range.specs.Rule.{hitOf, hit, Accepted}
+use Rattle.range.specs.Words.{wordsOf}
 use Rattle.range.specs.Model.{modelHit, runRange}
 use Rattle.range.specs.Back.{readRange, ReadSays}
 use Rattle.range.proofs.Tables.{length-sent}
 use Rattle.range.proofs.Carry.{model-hits}
-use Rattle.range.proofs.Decode.{read-back, read-iff, read-says}
+use Rattle.range.proofs.Decode.{read-back, read-says}
 
--- "those words run in the table and carry model hit exactly when the plain rule .. says so" (demand 2)
-pub range-words-hit : (lower upper mask : ℕ) → RangeAccepted lower upper mask → (sample : ℕ)
-    → modelHit (sentWords lower upper mask) sample ≡ rangeHit lower upper mask sample
-range-words-hit = model-hits
+-- over an accepted range's words the model hits exactly when the plain rule does [D2.3]
+pub run-hits : (r : Range) → Accepted r → (sample : ℕ) → runRange (wordsOf r) sample ≡ hitOrMiss (hit r (Sample sample))
+run-hits r a sample =
+    run-needed 32 (wordsOf r) _ _ (length-sent (r .lower) (r .upper) (r .mask)) (model-hits (r .lower) (r .upper) (r .mask) a sample)
 
--- the same of the model's answer: 32 words are never refused
-pub range-words-run : (lower upper mask : ℕ) → RangeAccepted lower upper mask → (sample : ℕ)
-    → runRange (sentWords lower upper mask) sample ≡ hitOrMiss (rangeHit lower upper mask sample)
-range-words-run lower upper mask a sample =
-    run-needed 32 (sentWords lower upper mask) _ _ (length-sent lower upper mask) (model-hits lower upper mask a sample)
+-- an accepted range's words are read as that range [C5, D2.5]
+pub words-read-back : (r : Range) → Accepted r → readRange (wordsOf r) ≡ ReadRange.Range (r .lower) (r .upper) (r .mask)
+words-read-back r = read-back (r .lower) (r .upper) (r .mask)
 
--- "Reading the commands back gives the sheet" (demand 2): the words of an accepted range are read as that range
-pub range-words-read : (lower upper mask : ℕ) → RangeAccepted lower upper mask
-    → readRange (sentWords lower upper mask) ≡ ReadRange.Range lower upper mask
-range-words-read = read-back
-
--- "accepted exactly if some accepted sheet writes it" (demand 2): words are read as a range exactly if it is accepted and writes them
-pub range-read-exactly : (words : List ℕ) (lower upper mask : ℕ)
-    → (readRange words ≡ ReadRange.Range lower upper mask) ↔ (RangeAccepted lower upper mask × (words ≡ sentWords lower upper mask))
-range-read-exactly = read-iff
-
--- and refused exactly if no accepted range writes them
-pub range-refused-exactly : (words : List ℕ)
-    → (readRange words ≡ ReadRange.Refused)
-    ↔ ((lower upper mask : ℕ) → RangeAccepted lower upper mask → words ≡ sentWords lower upper mask → ⊥)
-range-refused-exactly words = (λ e. subst (ReadSays words) e (read-says words), λ none. go (readRange words) (read-says words) none)
+-- words are refused unless an accepted range writes them [C5, F16, D2.6]
+pub accepted-iff-written : (words : List ℕ) → (readRange words ≡ ReadRange.Refused → ⊥) ↔ ((r : Range) × (Accepted r × (words ≡ wordsOf r)))
+accepted-iff-written ws = (λ n. go (readRange ws) n (read-says ws), back)
   where
-    go : (r : ReadRange) → ReadSays words r
-        → ((lower upper mask : ℕ) → RangeAccepted lower upper mask → words ≡ sentWords lower upper mask → ⊥) → r ≡ ReadRange.Refused
-    go (ReadRange.Range lower upper mask) says none = absurd (none lower upper mask (says .0) (says .1))
-    go ReadRange.Refused says none = refl
+    go : (x : ReadRange) → (x ≡ ReadRange.Refused → ⊥) → ReadSays ws x → (r : Range) × (Accepted r × (ws ≡ wordsOf r))
+    go (ReadRange.Range lower upper mask) n says = (record { lower = lower; upper = upper; mask = mask }, (says .0, says .1))
+    go ReadRange.Refused n says = absurd (n refl)
 
--- "Two ranges that share chain words hit alike on every input" (demand 3)
-pub ranges-of-equal-words : (a b : Range) → Accepted a → Accepted b → wordsOf a ≡ wordsOf b → HitAlike (hitOf a) (hitOf b)
-ranges-of-equal-words a b aa ab e sample h =
+    back : ((r : Range) × (Accepted r × (ws ≡ wordsOf r))) → readRange ws ≡ ReadRange.Refused → ⊥
+    back (r, (a, w)) e =
+        let x : ReadRange.Range (r .lower) (r .upper) (r .mask) ≡ ReadRange.Refused = sym (ap readRange w ∙ words-read-back r a) ∙ e in
+        let z : _≡_ {A = ℕ} 0 1 = cc in
+        omega arith
+
+-- no sample tells two accepted ranges apart that have the same chain words [D3.3]
+pub equal-words-alike : (a b : Range) → Accepted a → Accepted b → wordsOf a ≡ wordsOf b → HitAlike (hit a) (hit b)
+equal-words-alike a b aa ab e =
+    alike-on-samples (hitOf a) (hitOf b)
+    (λ sample h.
     sym (model-hits (a .lower) (a .upper) (a .mask) aa sample) ∙ ap (λ (ws : List ℕ). modelHit ws sample) e
-    ∙ model-hits (b .lower) (b .upper) (b .mask) ab sample
+    ∙ model-hits (b .lower) (b .upper) (b .mask) ab sample)
+
+-- from bytes and to bytes are inverse
+pub bytes-inverse : (d : List ℕ) → Bytes d → length d ≡ size → toBytes (fromBytes d) ≡ d
+unfolding fieldBytes
+bytes-inverse d h l = fields-written 3 0 d h l
+
+made : (lower upper mask : ℕ) → Range
+made lower upper mask = record { lower = lower; upper = upper; mask = mask }
+
+pub description-inverse : (r : Range) → Accepted r → fromBytes (toBytes r) ≡ r
+unfolding made
+description-inverse r a =
+    let u = upper-fits (r .lower) (r .upper) (r .mask) a in
+    let read = fields-read (r .lower ∷ r .upper ∷ r .mask ∷ []) (fit₃ (r .lower) (r .upper) (r .mask) (omega (arith, a .ordered)) u (a .fits)) in
+    same₃ made (read 0 (lit< tt)) (read 1 (lit< tt)) (read 2 (lit< tt))

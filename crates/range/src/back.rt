@@ -1,7 +1,7 @@
 // The way back: words decoded to a range, which is encoded again and compared.
 ghost use mathlib.Core.Path.{_≡_};
 ghost use lib.ListN.{length};
-ghost use Rattle.lines.specs.Same.{same};
+ghost use Rattle.buffer.specs.Same.{same};
 ghost use Rattle.range.specs.Words.{sentWords};
 ghost use Rattle.range.specs.Back.{linesWith, chainBound, readRange, ReadSays};
 use super::ReadRange;
@@ -44,8 +44,8 @@ fn writes(words: &[u32], lower: u32, upper: u32, mask: u32) -> bool
     let chains = range_words(lower, upper, mask);
     let lower_chain = chains[0];
     let upper_chain = chains[1];
-    if lut::same_words(&words[..16], &lower_chain) {
-        return lut::same_words(&words[16..], &upper_chain);
+    if buffer::same_words(&words[..16], &lower_chain) {
+        return buffer::same_words(&words[16..], &upper_chain);
     }
     false
 }

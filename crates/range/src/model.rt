@@ -2,6 +2,8 @@
 ghost use mathlib.Core.Path.{_≡_};
 ghost use Prim.Native.Nat.{_<_};
 ghost use lib.ListN.{length};
+ghost use Rattle.lines.specs.Line.{choose};
+ghost use Rattle.lut.specs.Table.{answerAt};
 ghost use Rattle.range.specs.Model.{tableAt, chainCarry, runRange};
 use lut::Answer;
 
@@ -18,19 +20,29 @@ pub(crate) fn table_at(chain: &[u32], i: u32) -> u32
     }
 }
 
-// The carry that leaves line 31 of a chain of sixteen words.
+// What a line makes of the carry: its table answers 1 and passes it on, or 0 and the line's value is the carry.
+fn line_carry(table: u32, value: u32, carry: u32) -> u32
+    ensures { λ r. ⌜ r ≡ choose (answerAt table value) value carry ⌝ }
+{
+    if lut::answer_at(table, value) == 0 {
+        value
+    } else {
+        carry
+    }
+}
+
+// The carry that leaves line 31 of a chain of sixteen words; the last word has the lines 1 and 0.
 fn chain_carry(chain: &[u32], sample: u32) -> u32
     requires { ⌜ length (now chain) ≡ 16 ⌝ }
     ensures { λ r. ⌜ r ≡ chainCarry (now (chain .entry)) sample ⌝ }
 {
     let mut carry: u32 = 0;
-    let mut i: u32 = 0;
-    while i < 32 {
-        let value = lines::line_value(sample, i);
-        if lut::answer_at(table_at(chain, i), value) == 0 {
-            carry = value;
-        }
-        i += 1;
+    let mut i = 16;
+    while 0 < i {
+        i -= 1;
+        let two = sample >> (30 - 2 * i);
+        let even = line_carry(chain[i] % 65536, two % 2, carry);
+        carry = line_carry(chain[i] / 65536, two / 2 % 2, even);
     }
     carry
 }
@@ -43,8 +55,8 @@ pub fn run_range(words: &[u32], sample: u32) -> Answer
         return Answer::WrongCount(32);
     }
     let lower = chain_carry(&words[..16], sample);
-    let upper = chain_carry(&words[16..], sample);
     if lower == 1 {
+        let upper = chain_carry(&words[16..], sample);
         if upper == 0 {
             return Answer::Hit;
         }

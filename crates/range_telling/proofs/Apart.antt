@@ -17,13 +17,16 @@ use Rattle.lines.proofs.Digit.{bit-lt, line-half, line-zero}
 use Rattle.lines.proofs.Ones.{ones-in}
 use Rattle.lines.proofs.Scattering.{scatter-lt, gather-back}
 use Rattle.lines.proofs.Flip.{flip-lt, flip-masked, flip-unmasked, rank-lt}
-use Rattle.lut.specs.Telling.{HitAlike, TellsApart, SaysOne}
+use Rattle.lut.specs.Telling.{HitAlike, TellsApart, Says}
+use Rattle.lut.specs.declared.Input.{Input}
+use Rattle.lut.specs.declared.Input.the-variants.{Nothing, Sample, Samples, Sources}
+use Rattle.lut.proofs.Asked.{alike-on-samples}
 use Rattle.lut.specs.declared.Telling.{Telling}
-use Rattle.lut.specs.declared.Telling.the-variants.{Alike, One, Two}
+use Rattle.lut.specs.declared.Telling.the-variants.{Alike, Apart}
 use Rattle.range.specs.declared.Range.{Range}
-use Rattle.range.specs.Rule.{rangeHit, hitOf, Accepted}
+use Rattle.range.specs.Rule.{rangeHit, hitOf, hit, Accepted}
 use Rattle.range_telling.specs.Reduce.{idle, reduceOf}
-use Rattle.range_telling.specs.Tell.{turnValue, turnSample, tellLine, firstDiffer, tellMasks, tellBounds, tellReduced, tellingOf}
+use Rattle.range_telling.specs.Telling.{turnValue, turnSample, tellLine, firstDiffer, tellMasks, tellBounds, tellReduced, rangeTelling}
 use Rattle.range.proofs.Carry.{upper-fits}
 use Rattle.range.proofs.Decode.{range-path}
 use Rattle.range_telling.proofs.Halving.{busy-parts, reduce-hit, reduce-accepted, reduce-not-idle}
@@ -70,14 +73,14 @@ flip-hit r i sample h =
     ∙ sym (hit-inside r sample (gathered 32 sample (r .mask)) refl)
 
 tell-line : (a b : Range) (i : ℕ) → Reduced a → i < 32 → line (a .mask) i ≡ 1 → line (b .mask) i ≡ 0
-    → TellsApart (hitOf a) (hitOf b) (tellLine a b i)
+    → TellsApart (hit a) (hit b) (Sample (tellLine a b i))
 unfolding tellLine
 tell-line a b i ra hi ha hb = go (Bool·beq (hitOf a s) (hitOf b s)) refl
   where
     s : ℕ
     s = turnSample a i
 
-    go : (t : Bool) → Bool·beq (hitOf a s) (hitOf b s) ≡ t → TellsApart (hitOf a) (hitOf b) (cond t (flipLine i s) s)
+    go : (t : Bool) → Bool·beq (hitOf a s) (hitOf b s) ≡ t → TellsApart (hit a) (hit b) (Sample (cond t (flipLine i s) s))
     go true e =
         record {
           fits = flip-lt 32 i s hi (turn-sample-lt a i);
@@ -107,11 +110,11 @@ differ-line (suc n) m m′ h h′ ne =
     go false e ih = (omega arith, λ p. eqb-false (m % 2) (m′ % 2) e (sym (line-zero m) ∙ p ∙ line-zero m′))
 
 tell-masks : (a b : Range) (i : ℕ) → Reduced a → Reduced b → i < 32 → (line (a .mask) i ≡ line (b .mask) i → ⊥)
-    → TellsApart (hitOf a) (hitOf b) (tellMasks a b i)
+    → TellsApart (hit a) (hit b) (Sample (tellMasks a b i))
 unfolding tellMasks
 tell-masks a b i ra rb hi ne = go (eqb (line (a .mask) i) 1) refl
   where
-    go : (t : Bool) → eqb (line (a .mask) i) 1 ≡ t → TellsApart (hitOf a) (hitOf b) (cond t (tellLine a b i) (tellLine b a i))
+    go : (t : Bool) → eqb (line (a .mask) i) 1 ≡ t → TellsApart (hit a) (hit b) (Sample (cond t (tellLine a b i) (tellLine b a i)))
     go true e =
         let one = eqb-true (line (a .mask) i) 1 e in
         tell-line a b i ra hi one (omega (arith, bit-lt (b .mask / 2 ^ i)))
@@ -153,7 +156,7 @@ module _ (a b : Range) (ra : Reduced a) (rb : Reduced b) (masks : a .mask ≡ b 
 
   -- a value on the masked lines tells the ranges apart if it lies within the bounds of one and not of the other
   at-value : (v : ℕ) → v < 2 ^ ones (a .mask) → (inside (a .lower) (a .upper) v ≡ inside (b .lower) (b .upper) v → ⊥)
-      → TellsApart (hitOf a) (hitOf b) (scattered 32 v (a .mask))
+      → TellsApart (hit a) (hit b) (Sample (scattered 32 v (a .mask)))
   at-value v hv ne =
       let s = scattered 32 v (a .mask) in
       let at-v = back (a .mask) v (ra .accepted .fits) hv in
@@ -165,16 +168,15 @@ module _ (a b : Range) (ra : Reduced a) (rb : Reduced b) (masks : a .mask ≡ b 
 -- what a telling says of two reduced ranges
 abbrev pub Settled : Range → Range → Telling → Type 0
 Settled a b Alike = a ≡ b
-Settled a b (One s) = TellsApart (hitOf a) (hitOf b) s
-Settled a b (Two s s′) = ⊥
+Settled a b (Apart i) = TellsApart (hit a) (hit b) i
 
 settled-bounds : (a b : Range) → Reduced a → Reduced b → a .mask ≡ b .mask → Settled a b (tellBounds a b)
 unfolding tellBounds
 settled-bounds a b ra rb masks = go (eqb (a .lower) (b .lower)) refl (eqb (a .upper) (b .upper)) refl
   where
     go : (t : Bool) → eqb (a .lower) (b .lower) ≡ t → (t′ : Bool) → eqb (a .upper) (b .upper) ≡ t′
-        → Settled a b (cond t (cond t′ Alike (One (scattered 32 (max (a .upper) (b .upper)) (a .mask))))
-        (One (scattered 32 (min (a .lower) (b .lower)) (a .mask))))
+        → Settled a b (cond t (cond t′ Alike (Apart (Sample (scattered 32 (max (a .upper) (b .upper)) (a .mask)))))
+        (Apart (Sample (scattered 32 (min (a .lower) (b .lower)) (a .mask)))))
     go true e true e′ = range-path a b (eqb-true (a .lower) (b .lower) e) (eqb-true (a .upper) (b .upper) e′) masks
     go true e false e′ =
         at-value a b ra rb masks (max (a .upper) (b .upper)) (omega (arith, upper-lt a b ra rb masks, other-upper-lt a b ra rb masks))
@@ -191,7 +193,7 @@ settled a b ra rb = go (eqb (a .mask) (b .mask)) refl
     i : ℕ
     i = firstDiffer 32 (a .mask) (b .mask)
 
-    go : (t : Bool) → eqb (a .mask) (b .mask) ≡ t → Settled a b (cond t (tellBounds a b) (One (tellMasks a b i)))
+    go : (t : Bool) → eqb (a .mask) (b .mask) ≡ t → Settled a b (cond t (tellBounds a b) (Apart (Sample (tellMasks a b i))))
     go true e = settled-bounds a b ra rb (eqb-true (a .mask) (b .mask) e)
     go false e =
         let d = differ-line 32 (a .mask) (b .mask) (ra .accepted .fits) (rb .accepted .fits) (eqb-false (a .mask) (b .mask) e) in
@@ -211,25 +213,30 @@ pub reduced-hit : (r : Range) (sample : ℕ) → hitOf (reduceOf r) sample ≡ h
 unfolding reduceOf
 reduced-hit r sample = reduce-hit 32 r sample
 
+-- the same over any input
+pub reduced-alike : (r : Range) (i : Input) → hit (reduceOf r) i ≡ hit r i
+reduced-alike r Nothing = refl
+reduced-alike r (Sample s) = reduced-hit r s
+reduced-alike r (Samples earlier later) = refl
+reduced-alike r (Sources s) = refl
+
 module _ (a b : Range) (aa : Accepted a) (ab : Accepted b) where
   both-settled : Settled (reduceOf a) (reduceOf b) (tellReduced (reduceOf a) (reduceOf b))
   both-settled = settled (reduceOf a) (reduceOf b) (reduced a aa) (reduced b ab)
 
   -- no sample tells them apart, or the one that is given does
-  pub tells : SaysOne (hitOf a) (hitOf b) (tellingOf a b)
-  unfolding tellingOf
+  pub tells : Says (hit a) (hit b) (rangeTelling a b)
+  unfolding rangeTelling
   tells = go (tellReduced (reduceOf a) (reduceOf b)) both-settled
     where
-      go : (t : Telling) → Settled (reduceOf a) (reduceOf b) t → SaysOne (hitOf a) (hitOf b) t
-      go Alike e = λ s h. sym (reduced-hit a s) ∙ ap (λ (r : Range). hitOf r s) e ∙ reduced-hit b s
-      go (One s) p = record { fits = p .fits; tells = λ q. p .tells (reduced-hit a s ∙ q ∙ sym (reduced-hit b s)) }
-      go (Two s s′) p = p
+      go : (t : Telling) → Settled (reduceOf a) (reduceOf b) t → Says (hit a) (hit b) t
+      go Alike e = λ i h. sym (reduced-alike a i) ∙ ap (λ (r : Range). hit r i) e ∙ reduced-alike b i
+      go (Apart i) p = record { fits = p .fits; tells = λ q. p .tells (reduced-alike a i ∙ q ∙ sym (reduced-alike b i)) }
 
   -- two ranges that hit alike on every sample are equal without the lines that cannot matter
-  pub alike-reduced : HitAlike (hitOf a) (hitOf b) → reduceOf a ≡ reduceOf b
+  pub alike-reduced : HitAlike (hit a) (hit b) → reduceOf a ≡ reduceOf b
   alike-reduced alike = go (tellReduced (reduceOf a) (reduceOf b)) both-settled
     where
       go : (t : Telling) → Settled (reduceOf a) (reduceOf b) t → reduceOf a ≡ reduceOf b
       go Alike e = e
-      go (One s) p = absurd (p .tells (reduced-hit a s ∙ alike s (p .fits) ∙ sym (reduced-hit b s)))
-      go (Two s s′) p = absurd p
+      go (Apart i) p = absurd (p .tells (reduced-alike a i ∙ alike i (p .fits) ∙ sym (reduced-alike b i)))

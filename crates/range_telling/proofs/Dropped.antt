@@ -17,7 +17,7 @@ use Rattle.range.specs.Words.{tableFor, lineTable, lowerValue, upperValue, word
 use Rattle.range.specs.Model.{lowerTable, upperTable}
 use Rattle.range_telling.specs.Matter.{CannotMatter, DroppedWords}
 use Rattle.range_telling.specs.Reduce.{idle, halved, reduceFrom, reduceOf}
-use Rattle.range_telling.specs.Tell.{turnSample}
+use Rattle.range_telling.specs.Telling.{turnSample}
 use Rattle.range.proofs.Tables.{length-sent, lower-sent, upper-sent, words-same}
 use Rattle.range.proofs.Carry.{lower-value, upper-value}
 use Rattle.range_telling.proofs.Halving.{idle-parts, halved-accepted, ones-halved, reduce-masks}

@@ -12,7 +12,7 @@ use lib.Pow.{pow-pos}
 use Rattle.lines.specs.Line.{line, flipLine}
 use Rattle.lines.proofs.Digit.{bit-lt, line-half, line-zero}
 use Rattle.lines.proofs.Flip.{flip-up, flip-down}
-use Rattle.range_telling.specs.Tell.{turnLower, turnUpper, turnValue}
+use Rattle.range_telling.specs.Telling.{turnLower, turnUpper, turnValue}
 
 -- whether a number lies within the bounds
 abbrev pub inside : ℕ → ℕ → ℕ → Bool

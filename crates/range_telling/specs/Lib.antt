@@ -1,3 +1,4 @@
 pub mod Matter
 pub mod Reduce
-pub mod Tell
+pub mod Telling
+pub mod Description

@@ -1,4 +1,5 @@
--- The lines of a range that cannot matter, by what that means, and the words without them. "Cannot matter" is 01's own term.
+-- The lines of a range that cannot matter, by what that means, and the words without them. *Cannot matter* and
+-- *dropped* are the buyer's terms.
 use mathlib.Core.Path.{_≡_}
 use mathlib.Core.List.{List}
 use Prim.Native.Nat.{ℕ, _^_, _<_}
@@ -9,11 +10,11 @@ use Rattle.range.specs.Rule.{hitOf}
 use Rattle.range.specs.Words.{wordsOf}
 use Rattle.range.specs.Model.{lowerTable, upperTable}
 
--- "A line cannot matter if changing it alone never changes the hit, whatever the others are" (01, "Plain rules of a hit")
+-- for every sample, turning this one line over leaves the answer as it is [G11]
 abbrev pub CannotMatter : (r : Range) (i : ℕ) → Type 0
 CannotMatter r i = (sample : ℕ) → sample < 2 ^ 32 → hitOf r (flipLine i sample) ≡ hitOf r sample
 
--- "dropping it puts FFFF in its place in both chains": 32 words, table by table; a line that matters keeps its tables
+-- 32 words: 0xFFFF in both chains for each line that cannot matter, the range's own tables for the others [G12, D3.4]
 pub record DroppedWords (r : Range) (words : List ℕ) : Type 0 where
   pub count : length words ≡ 32
   pub dropped : (i : ℕ) → i < 32 → CannotMatter r i → (lowerTable words i ≡ 0xFFFF) × (upperTable words i ≡ 0xFFFF)

@@ -1,5 +1,5 @@
--- Read and compiled again: an accepted stream gives an accepted sheet, and that sheet's commands are the stream. Its items come by
--- rising address, so taking them section by section in sending order changes nothing. Assumes nothing.
+-- Read and compiled again: an accepted stream gives an accepted sheet, and that sheet's commands are the stream. Its
+-- items come by rising address, so taking them section by section in sending order changes nothing. Assumes nothing.
 use Prim.Native.Nat.{ℕ, zero, suc, zero-le, _+_, _≤_, _<_}
 use mathlib.Core.Path.{_≡_, refl, sym, ap, ap₂, _∙_, subst}
 use mathlib.Core.List.{List, [], _∷_, _++_, append-assoc, List·Memᴰ, List·Memᴰ·head, List·Memᴰ·tail, List·Memᴰ·not-nil, List·Memᴰ·cases-cons}
@@ -17,12 +17,14 @@ use Rattle.command.specs.Reading.{number}
 use Rattle.records.specs.Sections.{sections, mostOf, slotOf}
 use Rattle.sheet.specs.Parsed.{render, Ordered, Sections, WellFormed}
 use Rattle.sheet.proofs.Descriptions.{bytes-rendered}
-use Rattle.compiler.specs.Items.{addressOf, item}
-use Rattle.compiler.specs.Stream.{items, sent, streamOf}
-use Rattle.reader.specs.Addresses.{sectionAt}
+use Rattle.compiler.specs.Items.{addressOf}
+use Rattle.compiler.proofs.Joined.{item, stream-sent}
+use Rattle.compiler.specs.Stream.{streamOf}
+use Rattle.compiler.proofs.Joined.{items, sent}
+use Rattle.kinds.specs.Table.{sectionAt}
 use Rattle.reader.specs.Judging.{itemVerdict, stepSize, rests, itemsVerdict, streamVerdict}
 use Rattle.reader.specs.Back.{recordIn, recordsOf, sectionsOf, sheetIn}
-use Rattle.reader.proofs.Places.{slots-rise, Clear, Ranked, sending-ranked, sent-all}
+use Rattle.reader.proofs.Sending.{slots-rise, Clear, Ranked, sending-ranked, sent-all}
 use Rattle.reader.proofs.Cutting.{step-known, rests-none, rests-some, by-rests}
 use Rattle.reader.proofs.Items.{item-known, item-rising, item-read}
 use Rattle.reader.proofs.Trip.{AllBytes}
@@ -219,9 +221,10 @@ module _ (s : List ℕ) (e : streamVerdict s ≡ Accepted) where
 
   -- compiling the sheet that is read gives the stream
   pub again-stream : Bytes s → streamOf (sheetIn s) ≡ s
-  unfolding streamOf Covers streamVerdict
+  unfolding Covers streamVerdict
   again-stream b =
-      sent-read s sending-ranked
+      stream-sent (sheetIn s)
+      ∙ sent-read s sending-ranked
       ∙ gather sending-ranked 0 (rests s) rising (λ k slot h m g. sent-all k h)
       ∙ pieces-whole s b 0 0 e
 

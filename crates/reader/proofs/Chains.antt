@@ -19,7 +19,8 @@ use Rattle.command.specs.Command.{selectOp, chain}
 use Rattle.command.specs.Reading.{number, commandVerdict, loadsVerdict, wordsIn}
 use Rattle.command.proofs.Checked.{command-ok, loads-whole, length-words}
 use Rattle.command.proofs.RoundTrip.{chain-selects, chain-address, chain-loads, chain-past, chain-written}
-use Rattle.compiler.specs.Items.{chainsFrom, sizeOf}
+use Rattle.compiler.specs.Items.{sizeOf}
+use Rattle.compiler.proofs.Joined.{chainsFrom}
 use Rattle.compiler.specs.Chains.{wordsRead}
 use Rattle.reader.specs.Judging.{chainsVerdict}
 

@@ -1,24 +1,28 @@
--- A stream cut into items: what is left behind each of them, and induction item by item. Assumes nothing.
-use Prim.Native.Nat.{ℕ, zero, suc, zero-le, _≤_, _<_}
-use mathlib.Core.Path.{_≡_, refl, ap}
+-- A stream cut into items: what is left behind each of them, induction item by item, and the records of a section.
+-- Assumes nothing.
+use Prim.Native.Nat.{ℕ, zero, suc, zero-le, _+_, _≤_, _<_}
+use mathlib.Core.Path.{_≡_, refl, ap, _∙_}
 use mathlib.Core.List.{List, [], _∷_}
 use native.Mathlib.Decide.{decLt}
 use native.Mathlib.Nat.{not-suc-le-zero, le-refl}
 use native.Mathlib.Omega.{arith}
-use borrow.Author.Tests.{lt-ltb, le-ltb}
+use borrow.Author.Tests.{lt-ltb, le-ltb, eq-eqb, ne-eqb}
 use lib.Dec.{leb, leb→le}
 use lib.ListN.{length, drop, length-drop}
+use lib.Seq.{drop-drop}
 use Rattle.lines.proofs.Computed.{every-below}
 use Rattle.command.specs.Reading.{number}
 use Rattle.records.specs.Sections.{sections}
 use Rattle.compiler.specs.Items.{kindOf, lengthsOf, sizeOf, itemSize}
-use Rattle.reader.specs.Addresses.{sectionAt}
+use Rattle.kinds.specs.Table.{sectionAt}
 use Rattle.reader.specs.Judging.{stepSize, restsFrom, rests}
+use Rattle.reader.specs.Back.{recordIn, recordsOf}
+use Rattle.kinds.specs.Table.{chainCount, chainLength}
 
 -- ---- how far a step goes
 
 pub item-positive : (k : ℕ) → k < sections → 5 ≤ itemSize k
-unfolding itemSize sizeOf lengthsOf kindOf
+unfolding itemSize sizeOf lengthsOf chainCount chainLength kindOf
 item-positive k h = leb→le _ _ (every-below sections (λ k. leb 5 (itemSize k)) tt k h)
 
 module _ (s : List ℕ) where
@@ -77,3 +81,26 @@ by-rests P none some s = go (length s) s (le-refl (length s))
     go (suc n) (b ∷ s) h =
         let p = step-positive (b ∷ s) in
         some (b ∷ s) (omega arith) (go n (drop (stepSize (b ∷ s)) (b ∷ s)) (rw (length-drop (stepSize (b ∷ s)) (b ∷ s)) (omega arith)))
+
+-- ---- the records of section k, from the item at `at` on
+
+module _ (k at : ℕ) (s : List ℕ) where
+  module _ (h : at < length s) where
+    there : rests (drop at s) ≡ drop at s ∷ rests (drop (at + stepSize (drop at s)) s)
+    there =
+        rests-some (drop at s) (rw length-drop (omega arith))
+        ∙ ap (λ (t : List ℕ). drop at s ∷ rests t) (drop-drop (stepSize (drop at s)) at s)
+
+    pub records-own : sectionAt (number (drop at s)) ≡ k
+        → recordsOf k (rests (drop at s)) ≡ recordIn (drop at s) ∷ recordsOf k (rests (drop (at + stepSize (drop at s)) s))
+    unfolding recordsOf
+    records-own e = rw (there, eq-eqb (sectionAt (number (drop at s))) k e)
+
+    pub records-other : (sectionAt (number (drop at s)) ≡ k → ⊥)
+        → recordsOf k (rests (drop at s)) ≡ recordsOf k (rests (drop (at + stepSize (drop at s)) s))
+    unfolding recordsOf
+    records-other n = rw (there, ne-eqb (sectionAt (number (drop at s))) k n)
+
+  pub records-end : length s ≤ at → recordsOf k (rests (drop at s)) ≡ []
+  unfolding recordsOf
+  records-end h = rw (rests-none (drop at s) (rw length-drop (omega arith)))

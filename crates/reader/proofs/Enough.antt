@@ -1,5 +1,5 @@
--- How much of a stream the reader looks at: an accepted stream has at most 2,360 bytes, and of any other one whole command more
--- settles the refusal. Assumes nothing.
+-- How much of a stream the reader looks at: an accepted stream has at most 2,360 bytes, and of any other one whole
+-- command more settles the refusal. Assumes nothing.
 use Prim.Native.Nat.{ℕ, zero, suc, _+_, _*_, _≤_, _<_, _-_}
 use mathlib.Core.Path.{_≡_, refl, sym, ap, ap₂, _∙_}
 use mathlib.Core.Bool.{Bool, not, cond}
@@ -10,7 +10,7 @@ use native.Mathlib.Omega.{arith}
 use borrow.Author.Tests.{lt-ltb, le-ltb}
 use lib.Dec.{eqb, ltb}
 use lib.ListN.{length, take, drop, length-take, length-drop}
-use lib.Seq.{getD-take, take-all, take-nil}
+use lib.Seq.{getD-take, take-all}
 use Rattle.buffer.specs.Verdict.{andThen, refuseIf}
 use Rattle.buffer.specs.Room.{bytes, unless}
 use Rattle.buffer.specs.declared.Verdict.{Verdict}
@@ -19,24 +19,20 @@ use Rattle.buffer.proofs.Faults.{andThen-accepted, andThen-assoc}
 use Rattle.buffer.proofs.Numbers.{u32-take}
 use Rattle.command.specs.Command.{selectOp, loadOp}
 use Rattle.command.specs.Reading.{number, commandVerdict, loadsVerdict, wordsIn}
-use Rattle.records.specs.Sections.{sections, rowOf, mostOf}
+use Rattle.records.specs.Sections.{sections, kindOf, mostOf}
 use Rattle.sheet.specs.Parsed.{render}
-use Rattle.compiler.specs.Items.{kindOf, addressOf, lengthsOf, sizeOf, itemSize}
+use Rattle.sheet.proofs.Longest.{drop-take}
+use Rattle.compiler.specs.Items.{addressOf, lengthsOf, sizeOf, itemSize}
 use Rattle.compiler.specs.Chains.{wordsRead}
-use Rattle.reader.specs.Addresses.{slotFrom, slotAt, sectionFrom, sectionAt}
+use Rattle.kinds.specs.Table.{slotFrom, slotAt, sectionFrom, sectionAt}
 use Rattle.reader.specs.Judging.{descriptionIn, firstVerdict, chainsVerdict, itemVerdict, stepSize, rests, itemsVerdict, streamVerdict}
 use Rattle.reader.specs.Back.{sheetIn, readBack}
-use Rattle.reader.proofs.Places.{known-small}
+use Rattle.kinds.proofs.Places.{known-small}
 use Rattle.reader.proofs.Cutting.{step-known, rests-none, rests-some, by-rests}
 use Rattle.reader.proofs.Items.{first-accepted, item-known, item-rising}
+use Rattle.kinds.specs.Table.{chainCount, chainLength}
 
 -- ---- what the first n bytes settle
-
-drop-take : (k n : ℕ) (l : List ℕ) → drop k (take n l) ≡ take (n - k) (drop k l)
-drop-take zero n l = let e : n - 0 ≡ n = omega arith in rw e
-drop-take (suc k) zero l = let e : 0 - suc k ≡ 0 = omega arith in rw e
-drop-take (suc k) (suc n) [] = sym (take-nil (suc n - suc k))
-drop-take (suc k) (suc n) (x ∷ l) = let e : suc n - suc k ≡ n - k = omega arith in rw e (drop-take k n l)
 
 command-prefix : (op at n : ℕ) (s : List ℕ) → 5 ≤ n → commandVerdict op at (take n s) ≡ commandVerdict op at s
 unfolding commandVerdict
@@ -137,7 +133,7 @@ module _ (low a : ℕ) (h : low ≤ a) (known : sectionAt a < sections) where
 
 -- all the items that there are
 all-items : left 0 ≡ 2360
-unfolding left sizesFrom sizeAt itemSize sizeOf lengthsOf kindOf sectionAt sectionFrom slotAt slotFrom mostOf rowOf addressOf
+unfolding left sizesFrom sizeAt itemSize sizeOf lengthsOf chainCount chainLength kindOf sectionAt sectionFrom slotAt slotFrom mostOf addressOf
 all-items = refl
 
 -- ---- streams

@@ -1,4 +1,5 @@
--- Streams worked out: each refusal 13 to 16 with its place, and which of two wins. One table, computed. Assumes nothing.
+-- Streams worked out: each refusal 13 to 16 with its place, and which of two wins. One table, computed. Assumes
+-- nothing.
 use Prim.Native.Nat.{ℕ, _<_}
 use mathlib.Core.Path.{_≡_, refl}
 use mathlib.Core.Bool.{Bool, true, false, _&&_}
@@ -8,9 +9,9 @@ use lib.Dec.{T, eqb}
 use lib.ListN.{length, take, replicate}
 use Rattle.lines.specs.Line.{overLines, fromLines}
 use Rattle.lines.specs.Gather.{gathered, scattered}
-use Rattle.lines.specs.Same.{same}
-use Rattle.lut.specs.Table.{tableOf}
-use Rattle.buffer.specs.Bytes.{u32At}
+use Rattle.buffer.specs.Same.{same}
+use Rattle.lut.specs.Table.{tableOf, down}
+use Rattle.buffer.specs.Bytes.{u32At, allWithin}
 use Rattle.buffer.specs.Room.{bytes}
 use Rattle.buffer.specs.declared.Verdict.{Verdict}
 use Rattle.buffer.specs.declared.Verdict.the-variants.{Accepted, Refused}
@@ -21,18 +22,24 @@ use Rattle.term.specs.Words as term-words
 use Rattle.term.specs.Back.{nibbleMask, wordPart, linesAfter, partOf, readTerm}
 use Rattle.range.specs.Words as range-words
 use Rattle.range.specs.Back.{linesWith, chainBound, readRange}
-use Rattle.edge.specs.Chain as edge-words
-use Rattle.edge.specs.Reading.{covers, wishFrom}
-use Rattle.sum.specs.Operation.{opCode, codesAccepted}
-use Rattle.sum.specs.Reading.{codesOf}
-use Rattle.records.specs.Sections.{rowOf, mostOf}
+use Rattle.edge.specs.Words as edge-words
+use Rattle.edge.specs.Back.{covers, wishFrom}
+use Rattle.sum.specs.Operation.{opCode}
+use Rattle.sum.specs.Back.{codesOf}
+use Rattle.records.specs.Sections.{kindOf, mostOf}
 use Rattle.sheet.specs.Parsed.{joined, render}
-use Rattle.compiler.specs.Items.{kindOf, addressOf, lengthsOf, sizeOf, itemSize}
+use Rattle.compiler.specs.Items.{addressOf, lengthsOf, sizeOf, itemSize}
 use Rattle.compiler.specs.Chains.{wordsRead}
-use Rattle.reader.specs.Addresses.{slotFrom, slotAt, sectionFrom, sectionAt}
+use Rattle.kinds.specs.Table.{slotFrom, slotAt, sectionFrom, sectionAt}
 use Rattle.reader.specs.Judging.{descriptionRead, descriptionIn, firstVerdict, chainsVerdict, itemVerdict, stepSize, restsFrom, rests, itemsVerdict, streamVerdict}
 use Rattle.reader.specs.Back.{recordsOf, sectionsOf, sheetIn, readBack}
 use Rattle.reader.proofs.Cutting.{rests-some}
+use Rattle.kinds.specs.Table.{chainCount, chainLength}
+use Rattle.buffer.specs.Fields.{fieldBytes}
+use Rattle.term.specs.Description as term-kind
+use Rattle.range.specs.Description as range-kind
+use Rattle.edge.specs.Description as edge-kind
+use Rattle.sum.specs.Description as sum-kind
 
 -- ---- any stream of 1 to 4 bytes: 13 at 0
 
@@ -40,7 +47,7 @@ pub short-stream : (s : List ℕ) → 0 < length s → length s < 5 → streamVe
 unfolding streamVerdict itemsVerdict itemVerdict firstVerdict
 short-stream s h l = rw (rests-some s h, command-short selectOp 0 s l)
 
--- ---- the words are 01's own ('Bench examples'): term 1, target 5 and mask F; range 0, 3..9 with mask F
+-- ---- the words are those of the examples: term 1, target 5 and mask 0xF; range 0, 3 to 9 with mask 0xF [E1, E3]
 
 pub term : List ℕ
 term = chain 0x21 (0xFFFFFFFF ∷ 0xFFFFFFFF ∷ 0xFFFFFFFF ∷ 0xFFFF0020 ∷ [])
@@ -102,12 +109,12 @@ table =
     ∷ []
 
 pub examples : T (allHold table)
-unfolding allHold agree gives table term ends lower upper streamVerdict itemsVerdict rests restsFrom stepSize itemVerdict firstVerdict chainsVerdict descriptionIn descriptionRead wordsRead commandVerdict loadsVerdict wordsIn loads itemSize sizeOf lengthsOf addressOf kindOf mostOf rowOf sectionAt sectionFrom slotAt slotFrom u32At readTerm partOf linesAfter wordPart nibbleMask trailingZeros tableOf term-words.termWords term-words.wordsDown term-words.chainWord term-words.nibbleTable same readRange linesWith chainBound fromLines gathered scattered ones range-words.sentWords range-words.chainWords range-words.wordsDown range-words.lowerValue range-words.upperValue covers wishFrom overLines edge-words.wordsFrom edge-words.pairTable codesOf opCode codesAccepted
+unfolding allHold agree gives table term ends lower upper streamVerdict itemsVerdict rests restsFrom stepSize itemVerdict firstVerdict chainsVerdict descriptionIn descriptionRead term-kind.back range-kind.back edge-kind.back sum-kind.back fieldBytes wordsRead commandVerdict loadsVerdict wordsIn loads itemSize sizeOf lengthsOf chainCount chainLength addressOf kindOf mostOf sectionAt sectionFrom slotAt slotFrom u32At readTerm partOf linesAfter wordPart nibbleMask trailingZeros tableOf down term-words.termWords term-words.chainWord term-words.nibbleTable same readRange linesWith chainBound fromLines gathered scattered ones range-words.sentWords range-words.chainWords range-words.lowerValue range-words.upperValue covers wishFrom overLines edge-words.pairTable codesOf opCode allWithin
 examples = tt
 
 -- ---- what is read
 
--- 'an empty stream gives the sheet of four zero bytes'
+-- the stream of no bytes is read as four zeros [C8]
 pub empty-stream : readBack [] ≡ bytes (0 ∷ 0 ∷ 0 ∷ 0 ∷ [])
 unfolding streamVerdict itemsVerdict rests restsFrom sheetIn sectionsOf recordsOf render joined
 empty-stream = refl

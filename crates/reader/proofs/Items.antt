@@ -1,5 +1,5 @@
--- Items, there and back: the item of a record without fault is accepted and read as that record blanked, and an accepted item is
--- that of the record it is read as. Assumes nothing.
+-- Items, there and back: the item of a record without fault is accepted and read as that record blanked, and an
+-- accepted item is that of the record it is read as. Assumes nothing.
 use Prim.Native.Nat.{ℕ, _+_, _≤_, _<_, _^_}
 use mathlib.Core.Path.{_≡_, refl, sym, ap, _∙_, subst}
 use mathlib.Core.Bool.{Bool, true, false, _||_, true≢false}
@@ -20,19 +20,22 @@ use Rattle.command.specs.Command.{selectOp}
 use Rattle.command.specs.Reading.{number, commandVerdict}
 use Rattle.records.specs.Sections.{sections, labelSize, mostOf, descriptionSize, recordSize, descriptionFault, slotOf, labelOf, descriptionOf}
 use Rattle.sheet.specs.Parsed.{Faultless}
-use Rattle.records.proofs.Bounds.{most-byte}
-use Rattle.compiler.specs.Items.{kindOf, addressOf, lengthsOf, chainsOf, item, itemSize}
+use Rattle.kinds.proofs.Rows.{most-byte}
+use Rattle.compiler.specs.Items.{kindOf, addressOf, lengthsOf, chainsOf, itemSize}
+use Rattle.compiler.proofs.Joined.{item}
 use Rattle.compiler.specs.Chains.{wordsRead}
-use Rattle.compiler.proofs.ItemLaws.{chains-lengths, item-length, address-small, chains-some}
+use Rattle.compiler.proofs.ItemLaws.{chains-lengths, item-length}
+use Rattle.kinds.proofs.Addresses.{address-small, chains-some}
 use Rattle.compiler.proofs.Held as held
-use Rattle.reader.specs.Addresses.{slotAt, sectionAt}
+use Rattle.kinds.specs.Table.{slotAt, sectionAt}
 use Rattle.reader.specs.Judging.{descriptionIn, firstVerdict, chainsVerdict, itemVerdict, stepSize}
 use Rattle.reader.specs.Back.{labelFor, recordIn}
 use Rattle.reader.specs.Blanked.{cutDescription, blankRecord}
-use Rattle.reader.proofs.Places.{slot-fits, slot-address, section-of-slot, slot-of-address}
+use Rattle.kinds.proofs.Places.{slot-fits, slot-address, section-of-slot, slot-of-address}
 use Rattle.reader.proofs.Cutting.{step-known}
 use Rattle.reader.proofs.Ways.{Described, way}
 use Rattle.reader.proofs.Chains.{chains-accepted, chains-number, chains-select, chains-whole, chains-written}
+use Rattle.kinds.specs.Table.{chainCount, chainLength}
 
 -- ---- labels
 
@@ -60,7 +63,7 @@ module _ (k slot : ℕ) (d : List ℕ) where
 -- ---- how many chains
 
 few-chains : (k : ℕ) → k < sections → length (lengthsOf k) ≤ 255
-unfolding lengthsOf kindOf
+unfolding lengthsOf chainCount chainLength kindOf
 few-chains k h = leb→le _ _ (every-below sections (λ k. leb (length (lengthsOf k)) 255) tt k h)
 
 chains-count : (k : ℕ) (d : List ℕ) → length (chainsOf k d) ≡ length (lengthsOf k)

@@ -1,12 +1,13 @@
--- Which verdict a select, a chain, an item and a stream have, by the tests that hold: as the checks of the code go. Assumes nothing.
+-- Which verdict a select, a chain, an item and a stream have, by the tests that hold: as the checks of the code go.
+-- Assumes nothing.
 use Prim.Native.Nat.{ℕ, zero, suc, _+_, _*_, _≤_, _<_, _-_}
 use mathlib.Core.Path.{_≡_, refl, sym, ap, _∙_}
 use mathlib.Core.Bool.{Bool, true, false, not, cond}
 use mathlib.Core.List.{List, [], _∷_}
 use native.Mathlib.Omega.{arith}
 use borrow.Author.Tests.{lt-leb, le-leb, lt-ltb, le-ltb, eq-eqb, ne-eqb}
-use lib.Dec.{eqb, leb, lit≤}
-use lib.ListN.{length, getD, drop, replicate, length-drop}
+use lib.Dec.{eqb, leb}
+use lib.ListN.{length, drop, replicate, length-drop}
 use lib.Seq.{drop-drop}
 use Rattle.buffer.specs.Room.{bytes, Delivered}
 use Rattle.buffer.specs.Verdict.{andThen, refuseIf, outcomePlace}
@@ -19,11 +20,10 @@ use Rattle.command.specs.Command.{selectOp}
 use Rattle.command.specs.Reading.{number, commandVerdict, loadsVerdict}
 use Rattle.command.proofs.Checked.{command-ok}
 use Rattle.records.specs.Sections.{sections}
-use Rattle.compiler.specs.Items.{kindOf, lengthsOf, sizeOf, itemSize}
-use Rattle.compiler.specs.Chains.{wordsRead}
-use Rattle.reader.specs.Addresses.{sectionAt}
-use Rattle.reader.specs.Judging.{descriptionRead, descriptionIn, firstVerdict, chainsVerdict, itemVerdict, stepSize, rests, itemsVerdict}
-use Rattle.reader.proofs.Cutting.{step-known, step-unknown, rests-none, rests-some}
+use Rattle.compiler.specs.Items.{sizeOf}
+use Rattle.kinds.specs.Table.{sectionAt}
+use Rattle.reader.specs.Judging.{firstVerdict, chainsVerdict, itemVerdict, stepSize, rests, itemsVerdict}
+use Rattle.reader.proofs.Cutting.{rests-none, rests-some}
 use Rattle.reader.proofs.Chains.{chains-whole}
 
 -- nothing follows
@@ -86,22 +86,7 @@ chain-due words due at s e d =
 pub command-within : (op at : ℕ) (s : List ℕ) → commandVerdict op at (drop at s) ≡ Accepted → at + 5 ≤ length s
 command-within op at s e = omega (arith, command-ok op at (drop at s) e .0, length-drop at s)
 
--- ---- the chains of a section, as the code's table has them: so many, each of so many words
-
-pub chain-table : (k : ℕ) → k < sections → replicate (getD (1 ∷ 2 ∷ 1 ∷ 1 ∷ []) k 0) (getD (4 ∷ 16 ∷ 8 ∷ 6 ∷ []) k 0) ≡ lengthsOf k
-unfolding lengthsOf kindOf
-chain-table zero h = refl
-chain-table (suc zero) h = refl
-chain-table (suc (suc zero)) h = refl
-chain-table (suc (suc (suc zero))) h = refl
-chain-table (suc (suc (suc (suc k)))) h = absurd (omega arith)
-
-pub few-of-table : (k : ℕ) → getD (1 ∷ 2 ∷ 1 ∷ 1 ∷ []) k 0 ≤ 255
-few-of-table zero = lit≤ tt
-few-of-table (suc zero) = lit≤ tt
-few-of-table (suc (suc zero)) = lit≤ tt
-few-of-table (suc (suc (suc zero))) = lit≤ tt
-few-of-table (suc (suc (suc (suc k)))) = lit≤ tt
+-- ---- so many chains of as many words each
 
 module _ (words due from : ℕ) (s : List ℕ) where
   pub chains-turn : (left : ℕ) → 0 < left → chainsVerdict (replicate left words) due from (drop from s)
@@ -121,40 +106,15 @@ module _ (words due from : ℕ) (s : List ℕ) where
   unfolding sizeOf
   chain-within e = omega (arith, chains-whole (words ∷ []) due from (drop from s) e, length-drop from s)
 
--- ---- an item
+-- ---- an answer
 
--- an answer's place is how many bytes there are, whether they fit or not
+-- its place is how many bytes there are, whether they fit or not
 pub outcome-size : (bs room room′ : List ℕ) (r : Outcome) → Delivered (bytes bs) room r room′ → outcomePlace r ≡ length bs
 outcome-size bs room room′ r d = ap outcomePlace (d .answer) ∙ either (leb (length bs) (length room))
   where
     either : (b : Bool) → outcomePlace (cond b (Outcome.Done (length bs)) (Outcome.Refused 12 (length bs))) ≡ length bs
     either true = refl
     either false = refl
-
-module _ (s : List ℕ) (k : ℕ) (is : k ≡ sectionAt (number s)) where
-  pub step-item : k < sections → itemSize k ≡ stepSize s
-  step-item h = ap itemSize is ∙ sym (step-known s (rw (← is) h))
-
-  pub step-other : sections ≤ k → 5 ≡ stepSize s
-  step-other h = sym (step-unknown s (rw (← is) h))
-
-pub item-refused : (low at : ℕ) (s : List ℕ) (n p : ℕ) → firstVerdict low at s ≡ Refused n p → itemVerdict low at s ≡ Refused n p
-unfolding itemVerdict
-item-refused low at s n p e = rw e
-
-module _ (low at : ℕ) (s : List ℕ) (k a : ℕ) (is : k ≡ sectionAt (number s)) (selected : a ≡ number s) (e : firstVerdict low at s ≡ Accepted) where
-  pub item-unfinished : (n p : ℕ) → chainsVerdict (lengthsOf k) a at s ≡ Refused n p → itemVerdict low at s ≡ Refused n p
-  unfolding itemVerdict
-  item-unfinished n p f = rw (e, ← is, ← selected, f)
-
-  module _ (f : chainsVerdict (lengthsOf k) a at s ≡ Accepted) where
-    pub item-unread : length (descriptionRead k (wordsRead (lengthsOf k) s)) ≡ 0 → itemVerdict low at s ≡ Refused 16 at
-    unfolding itemVerdict descriptionIn
-    item-unread h = rw (e, ← is, ← selected, f) (simp (eq-eqb _ 0 h))
-
-    pub item-read : (length (descriptionRead k (wordsRead (lengthsOf k) s)) ≡ 0 → ⊥) → itemVerdict low at s ≡ Accepted
-    unfolding itemVerdict descriptionIn
-    item-read h = rw (e, ← is, ← selected, f) (simp (ne-eqb _ 0 h))
 
 -- ---- a stream, item by item
 

@@ -1,4 +1,4 @@
-pub mod Places
+pub mod Sending
 pub mod Cutting
 pub mod Ways
 pub mod Chains
@@ -8,6 +8,8 @@ pub mod Again
 pub mod Enough
 pub mod Theorems
 pub mod Examples
-pub mod Walks
 pub mod Judged
-pub mod Written
+pub mod Taking
+pub mod Keeping
+pub mod Parts
+pub mod Walking

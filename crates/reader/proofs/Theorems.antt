@@ -1,4 +1,4 @@
--- What is promised of reading commands back, each under the sentence of demand 2 that asks for it. Assumes nothing.
+-- What is promised of reading commands back, each under the rule that asks for it. Assumes nothing.
 use Prim.Native.Nat.{ℕ, _≤_}
 use mathlib.Core.Path.{_≡_, refl, sym, ap, _∙_, subst}
 use mathlib.Core.Bool.{Bool, true, false, cond}
@@ -28,29 +28,29 @@ use Rattle.reader.proofs.Again.{again-stream, again-well-formed, again-
 use Rattle.reader.proofs.Enough.{accepted-short, prefix-read}
 
 module _ (sheet : List ℕ) (b : Bytes sheet) (ok : verdict sheet ≡ Accepted) where
-  -- the commands of an accepted sheet are accepted
+  -- the commands of an accepted sheet are accepted [D2.6]
   pub compiled-accepted : streamVerdict (streamOf (parse sheet)) ≡ Accepted
   compiled-accepted = trip-accepted (parse sheet) (sheet-sound sheet b ok)
 
-  -- 'Reading the commands back gives the sheet without labels and ignored target bits'
+  -- they are read as that sheet, with blank labels and each target cut to its mask [D2.5]
   pub compiled-read : sheetIn (streamOf (parse sheet)) ≡ blanked (parse sheet)
   compiled-read = trip-sheet (parse sheet) (sheet-sound sheet b ok) (accepted-well-formed sheet ok .all)
 
-  -- the same of what the reader writes
+  -- the same of what the reader writes [D2.5]
   pub round-trip : readBack (streamOf (parse sheet)) ≡ bytes (render (blanked (parse sheet)))
   round-trip = rw (compiled-accepted, compiled-read)
 
 module _ (stream : List ℕ) (b : Bytes stream) (ok : streamVerdict stream ≡ Accepted) where
-  -- what the reader writes for an accepted stream is an accepted sheet
+  -- what the reader writes for an accepted stream is an accepted sheet [D2.6]
   pub read-accepted : verdict (render (sheetIn stream)) ≡ Accepted
   read-accepted = render-accepted (sheetIn stream) (again-well-formed stream ok)
 
-  -- and compiling it gives the stream again
+  -- and compiling it gives the stream again [D2.6]
   pub read-compiled : compiled (render (sheetIn stream)) ≡ bytes stream
   read-compiled =
       rw (read-accepted, parse-render (sheetIn stream) (again-well-formed stream ok)) (ap bytes (again-stream stream ok b))
 
--- 'accepted exactly if some accepted sheet writes it'
+-- a stream is accepted exactly when the compiler writes it for an accepted sheet [D2.6]
 pub accepted-exactly : (stream : List ℕ) → Bytes stream → (streamVerdict stream ≡ Accepted) ↔ WrittenBySheet stream
 accepted-exactly stream b = (
   λ ok.
@@ -65,7 +65,8 @@ accepted-exactly stream b = (
       subst (λ (s : List ℕ). streamVerdict s ≡ Accepted) e (compiled-accepted (w .sheet) (w .sheet-bytes) (w .accepted)),
 )
 
--- what the call answers says so: the sheet that it wrote writes the stream, or there was no room, or no accepted sheet writes it
+-- what the call answers says so: the sheet that it wrote writes the stream, or there was no room, or no accepted sheet
+-- writes it [D2.6]
 pub read-says : (stream : List ℕ) → Bytes stream → (room room′ : List ℕ) (r : Outcome) → Delivered (readBack stream) room r room′ → ReadSays stream r room′
 read-says stream b room room′ r d = go (streamVerdict stream) refl d
   where
@@ -86,10 +87,11 @@ read-says stream b room room′ r d = go (streamVerdict stream) refl d
 
 -- ---- how much of a stream the reader looks at
 
--- 01, 'Chain words': 2,360 bytes is 'the most there can be'
+-- no accepted stream has more than 2,360 bytes [W18]
 pub accepted-most : (stream : List ℕ) → streamVerdict stream ≡ Accepted → length stream ≤ 2360
 accepted-most = accepted-short
 
 -- so a program that hands over the first 2,365 bytes of a file, one whole command more, gets the whole file's answer
+-- [A9]
 pub enough : (stream : List ℕ) → readBack (take 2365 stream) ≡ readBack stream
 enough stream = prefix-read stream 2365 (le-refl 2365)

@@ -15,17 +15,19 @@ use Rattle.command.specs.Reading.{number}
 use Rattle.records.specs.Sections.{sections, mostOf, slotOf}
 use Rattle.sheet.specs.Parsed.{Faultless, Ordered, parse}
 use Rattle.sheet.specs.Reading.{verdict}
-use Rattle.records.proofs.Bounds.{most-positive}
+use Rattle.kinds.proofs.Rows.{most-positive}
 use Rattle.sheet.proofs.Descriptions.{bytes-parsed}
 use Rattle.sheet.proofs.Records.{section-ordered}
-use Rattle.compiler.specs.Items.{addressOf, item}
-use Rattle.compiler.specs.Stream.{items, sent, streamOf}
+use Rattle.compiler.specs.Items.{addressOf}
+use Rattle.compiler.proofs.Joined.{item, stream-sent}
+use Rattle.compiler.specs.Stream.{streamOf}
+use Rattle.compiler.proofs.Joined.{items, sent}
 use Rattle.compiler.proofs.ItemLaws.{item-length}
-use Rattle.reader.specs.Addresses.{sectionAt}
+use Rattle.kinds.specs.Table.{sectionAt}
 use Rattle.reader.specs.Judging.{itemVerdict, stepSize, rests, itemsVerdict, streamVerdict}
 use Rattle.reader.specs.Back.{recordsOf, sectionsOf, sheetIn}
 use Rattle.reader.specs.Blanked.{blankRecord, blankedFrom, blanked}
-use Rattle.reader.proofs.Places.{addresses-rise, Clear, Ranked, sending-ranked, sent-all}
+use Rattle.reader.proofs.Sending.{addresses-rise, Clear, Ranked, sending-ranked, sent-all}
 use Rattle.reader.proofs.Cutting.{item-positive, rests-none, rests-some}
 use Rattle.reader.proofs.Items.{item-number, item-section, item-past, item-record, item-accepted}
 
@@ -139,12 +141,11 @@ module _ (p : List (List (List ℕ))) (sound : Sound p) where
 
   -- what the compiler writes is accepted
   pub trip-accepted : streamVerdict (streamOf p) ≡ Accepted
-  unfolding streamVerdict streamOf
-  trip-accepted = sent-accepted sending-ranked 0 0 (λ k slot m h. zero-le)
+  unfolding streamVerdict
+  trip-accepted = rw (stream-sent p) (sent-accepted sending-ranked 0 0 (λ k slot m h. zero-le))
 
   trip-records : (k : ℕ) → k < sections → recordsOf k (rests (streamOf p)) ≡ map (blankRecord k) (getD p k [])
-  unfolding streamOf
-  trip-records k h = sent-records sending-ranked k (sent-all k h)
+  trip-records k h = rw (stream-sent p) (sent-records sending-ranked k (sent-all k h))
 
   -- and read as the sheet blanked
   pub trip-sheet : length p ≡ sections → sheetIn (streamOf p) ≡ blanked p

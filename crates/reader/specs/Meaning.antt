@@ -12,15 +12,15 @@ use Rattle.buffer.specs.declared.Verdict.the-variants.{Accepted}
 use Rattle.sheet.specs.Reading.{verdict}
 use Rattle.compiler.specs.Stream.{compiled}
 
--- demand 2: 'some accepted sheet writes it'
+-- the compiler writes this stream for an accepted sheet [D2.6]
 pub record WrittenBySheet (stream : List ℕ) : Type 0 where
   pub sheet : List ℕ
   pub sheet-bytes : Bytes sheet
   pub accepted : verdict sheet ≡ Accepted
   pub writes : compiled sheet ≡ bytes stream
 
--- demand 2, of the answer and of what the room then holds: the sheet at its start is accepted and writes the stream;
--- or some accepted sheet does, and there was no room for it; or none does
+-- what an answer says: the sheet at the room's start is accepted and writes the stream; or an accepted sheet does, and
+-- there was no room for it; or none does [D2.6, F12]
 abbrev pub ReadSays : (stream : List ℕ) → Outcome → (room : List ℕ) → Type 0
 ReadSays stream (Done n) room = (verdict (take n room) ≡ Accepted) × (compiled (take n room) ≡ bytes stream)
 ReadSays stream (Refused number place) room = ((number ≡ 12) × WrittenBySheet stream) ⊎ (WrittenBySheet stream → ⊥)

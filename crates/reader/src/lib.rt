@@ -1,17 +1,18 @@
 // The reader: from commands back to the set-up sheet that they load.
 // Promises: a stream's first fault by number and place, or the sheet and its length, or 12 and the bytes needed; a refusal writes nothing.
-// Rests on: command (the stream's syntax), term, range, edge and sum (the way back), sheet (its layout), compiler (what is sent).
+// Rests on: command (the stream's syntax), kinds (the way back), sheet (its layout), compiler (what is sent).
 ghost use Rattle.buffer.specs.Room.{Delivered};
 ghost use Rattle.reader.specs.Back.{readBack};
 ghost use Rattle.reader.specs.Meaning.{ReadSays};
 use buffer::Outcome;
 use buffer::Verdict;
-use judge::check_stream;
+use keep::ROOM;
+use walk::walk;
 use write::put_sheet;
 
-mod address;
-mod describe;
-mod judge;
+mod item;
+mod keep;
+mod walk;
 mod write;
 
 // The sheet that a stream sets up, written at the start of `out`, with blank labels and targets cut to their masks.
@@ -19,8 +20,9 @@ pub fn read(stream: &[u8], out: &mut [u8]) -> Outcome
     ensures { λ r. ⌜ Delivered (readBack (now (stream .entry))) (now (out .entry)) r (now (out .exit)) ⌝ }
     ensures { λ r. ⌜ ReadSays (now (stream .entry)) r (now (out .exit)) ⌝ }
 {
-    match check_stream(stream) {
+    let mut room = [0u8; ROOM];
+    match walk(stream, &mut room) {
         Verdict::Refused(number, place) => Outcome::Refused(number, place),
-        Verdict::Accepted => put_sheet(out, stream),
+        Verdict::Accepted => put_sheet(out, &room),
     }
 }

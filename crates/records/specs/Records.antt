@@ -6,34 +6,34 @@ use lib.Dec.{eqb}
 use lib.ListN.{length, take, drop}
 use Rattle.records.specs.Sections.{recordSize, slotOf}
 
--- 01, 'The set-up sheet': how many records a section's part holds
+-- how many records a section's part holds [S1, S9]
 unfoldable pub recordCount : ℕ → List ℕ → ℕ
 recordCount k part = length part / recordSize k
 
--- 01, 'The set-up sheet': record i of a section's part; nothing past its end
+-- record i of a section's part; nothing past its end [S1, B4]
 unfoldable pub recordAt : ℕ → List ℕ → ℕ → List ℕ
 recordAt k part i = take (recordSize k) (drop (i * recordSize k) part)
 
--- 01, 'The set-up sheet': the first n records of section k
+-- the first n records of section k, as far as the bytes go [S1, S12, B4]
 unfoldable pub recordsFrom : ℕ → ℕ → List ℕ → List (List ℕ)
 recordsFrom k zero rest = []
 recordsFrom k (suc n) rest = take (recordSize k) rest ∷ recordsFrom k n (drop (recordSize k) rest)
 
--- 01, 'The set-up sheet': all the records of a section's part
+-- all the records of a section's part [S1, S9]
 unfoldable pub recordsIn : ℕ → List ℕ → List (List ℕ)
 recordsIn k part = recordsFrom k (recordCount k part) part
 
--- 01, 'Plain rules of a hit', a shared slot: the record with that slot, 'wherever its records stand there'; nothing if there is none
+-- the record with that slot, at whatever place it stands; no bytes if there is none [G9, B7]
 unfoldable pub find : ℕ → List (List ℕ) → List ℕ
 find slot [] = []
 find slot (r ∷ rs) = cond (eqb (slotOf r) slot) r (find slot rs)
 
--- 01, 'The notice', 'by section and then slot': the record at a cursor, if it has that slot; nothing if not
+-- computed, by a cursor over rising slots: the record if it has the slot; theorem walk-finds of sheet [B6, G9, N2]
 unfoldable pub front : ℕ → List (List ℕ) → List ℕ
 front slot [] = []
 front slot (r ∷ rs) = cond (eqb (slotOf r) slot) r []
 
--- 01, 'The notice': the records from the cursor on, past the record with that slot
+-- computed: the records from the cursor on, past the one with that slot; theorem walk-finds of sheet [B6, G9, N2]
 unfoldable pub after : ℕ → List (List ℕ) → List (List ℕ)
 after slot [] = []
 after slot (r ∷ rs) = cond (eqb (slotOf r) slot) rs (r ∷ rs)

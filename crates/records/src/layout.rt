@@ -1,36 +1,22 @@
-// The layout of a sheet: the table of the sections, and the sizes that follow from it.
+// The layout of a sheet: the sizes that follow from the table of kinds.
 ghost use mathlib.Core.Path.{_≡_};
-ghost use Rattle.records.specs.Sections.{mostOf, descriptionSize, recordSize, sectionSize};
+ghost use Rattle.records.specs.Sections.{mostOf, recordSize, sectionSize};
 use crate::LABEL_SIZE;
-use crate::SECTIONS;
-
-const MOST: [usize; SECTIONS] = [10, 2, 2, 48];
-
-const DESCRIPTION_SIZE: [usize; SECTIONS] = [8, 12, 12, 11];
 
 // The most records of a section; its slots are below this. 0 for a section that no sheet has.
 pub fn most(section: usize) -> usize
     ensures { λ r. ⌜ r ≡ mostOf section ⌝ }
 {
-    if section < SECTIONS { MOST[section] } else { 0 }
-}
-
-// How many bytes a record has besides slot and label.
-fn description_size(section: usize) -> usize
-    ensures { λ r. ⌜ r ≡ descriptionSize section ⌝ }
-{
-    if section < SECTIONS {
-        DESCRIPTION_SIZE[section]
-    } else {
-        0
-    }
+    let row = kinds::row_of(section);
+    row.most
 }
 
 // How many bytes a record has.
 pub fn record_size(section: usize) -> usize
     ensures { λ r. ⌜ r ≡ recordSize section ⌝ }
 {
-    1 + LABEL_SIZE + description_size(section)
+    let row = kinds::row_of(section);
+    1 + LABEL_SIZE + row.size
 }
 
 // How many bytes a section of so many records has, its count included.

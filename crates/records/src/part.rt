@@ -12,17 +12,6 @@ pub fn record_count(part: &[u8], number: usize) -> usize
     part.len() / record_size(number)
 }
 
-// Record i of a section's part; empty past the end.
-pub fn record_at<'a>(part: &'a [u8], number: usize, i: usize) -> &'a [u8]
-    ensures { λ r. ⌜ now r ≡ recordAt number (now (part .entry)) i ⌝ }
-{
-    let size = record_size(number);
-    if part.len() / size < i {
-        return &part[..0];
-    }
-    buffer::prefix(buffer::suffix(part, i * size), size)
-}
-
 // The record of a section's part that starts at a cursor, if it is whole and has that slot; empty if not.
 // The cursor behind it is `at` and its length.
 pub fn record_with<'a>(part: &'a [u8], number: usize, at: usize, with: u8) -> &'a [u8]

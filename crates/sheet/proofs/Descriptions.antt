@@ -17,7 +17,10 @@ use Rattle.sheet.specs.Reading.{verdict}
 use Rattle.records.specs.Records.{recordAt, recordCount, recordsFrom, find}
 use Rattle.sheet.specs.Parts.{offsetOf, countOf, sectionUnchecked, sectionOf}
 use Rattle.sheet.specs.Parsed.{joined, render, Faultless, Ordered, Sections, WellFormed, parse, AcceptedDescription}
-use Rattle.records.proofs.Bounds.{most-byte, most-positive}
+use mathlib.Core.Logic.{_↔_}
+use Rattle.kinds.specs.Table as kinds
+use Rattle.kinds.proofs.Rows.{most-byte, most-positive}
+use Rattle.kinds.proofs.Ways.{faultless-iff-accepted}
 use Rattle.sheet.proofs.Parsed.{ordered-count, render-accepted, parse-render}
 use Rattle.sheet.proofs.Reading.{section-unknown}
 use Rattle.sheet.proofs.Records.{section-parsed, section-ordered, section-joined, record-of, count-of, record-faultless}
@@ -200,3 +203,18 @@ module _ (k : ℕ) (d : List ℕ) (a : AcceptedDescription k d) where
       rw (a .has) at
       (bytes-drop (1 + labelSize) (recordAt k (sectionOf (a .sheet) k) (a .place))
       (bytes-record k (a .place) (sectionOf (a .sheet) k) (bytes-section (a .sheet) k (a .bytes))))
+
+-- ---- by meaning
+
+-- an accepted description is one that its kind accepts
+pub description-accepted : (k : ℕ) → k < sections → (d : List ℕ) → AcceptedDescription k d → kinds.Accepted k d
+description-accepted k h d a =
+    let sound = description-sound k d a in faultless-iff-accepted k h d (description-bytes k d a) (sound .0) .0 (sound .1)
+
+-- and every such description of the right size is one
+pub accepted-description : (k : ℕ) (d : List ℕ) → k < sections → Bytes d
+    → AcceptedDescription k d ↔ ((length d ≡ descriptionSize k) × kinds.Accepted k d)
+accepted-description k d h b = (
+  λ a. (description-sound k d a .0, description-accepted k h d a),
+  λ e. description-complete k d h (e .0) (faultless-iff-accepted k h d b (e .0) .1 (e .1)) b,
+)

@@ -12,13 +12,16 @@ use Rattle.buffer.specs.declared.Verdict.the-variants.{Accepted, Refused}
 use Rattle.lines.specs.Line.{overLines}
 use Rattle.lines.proofs.Ones.{ones-in}
 use Rattle.range.specs.Rule.{rangeFault}
-use Rattle.sum.specs.Operation.{codesAccepted}
-use Rattle.records.specs.Sections.{fieldBytes, noFault, rangeFaultOf, edgeFaultOf, sumFaultOf, rowOf, mostOf, descriptionSize, descriptionFault, labelSize}
+use Rattle.records.specs.Sections.{fieldBytes, kindOf, mostOf, descriptionSize, descriptionFault, labelSize}
 use Rattle.sheet.specs.Reading.{recordFault, recordsVerdict, countVerdict, sectionVerdict, sectionsVerdict, verdict}
 use Rattle.records.specs.Records.{recordsFrom}
 use Rattle.sheet.specs.Parsed.{joined, render, sectionsFrom, parse}
 use Rattle.sheet.proofs.Descriptions.{sheetWith, recordWith, onlySection, sheet-with}
-use Rattle.sheet.proofs.Written.{fields-length}
+use Rattle.buffer.proofs.FieldLaws.{fields-length}
+use Rattle.edge.specs.Description as edge-kind
+use Rattle.term.specs.Description as term-kind
+use Rattle.range.specs.Description as range-kind
+use Rattle.sum.specs.Description as sum-kind
 
 -- a record with this slot, this label byte throughout and this description
 pub labelled : ℕ → ℕ → List ℕ → List ℕ
@@ -115,7 +118,7 @@ table =
     ∷ []
 
 pub examples : T (allHold table)
-unfolding labelled blank term sum three sheet slots full gives same allHold table joined render verdict sectionsVerdict sectionVerdict countVerdict recordsVerdict recordFault descriptionFault noFault rangeFaultOf rangeFault edgeFaultOf sumFaultOf codesAccepted overLines allWithin u32At fieldBytes rowOf mostOf descriptionSize ones onesIn sheetWith recordWith onlySection
+unfolding labelled blank term sum three sheet slots full gives same allHold table joined render verdict sectionsVerdict sectionVerdict countVerdict recordsVerdict recordFault descriptionFault term-kind.fault range-kind.fault rangeFault edge-kind.fault sum-kind.fault overLines allWithin u32At fieldBytes kindOf mostOf descriptionSize ones onesIn sheetWith recordWith onlySection
 examples = tt
 
 -- the same of descriptions alone; P: lower 0, and mask 1 with 1..1 and 1..2
@@ -125,16 +128,16 @@ pub descriptions :
     × (descriptionFault 1 (three 1 2 1) ≡ 8)
     × (descriptionFault 2 (three 1 0 1) ≡ 9)
     × (descriptionFault 3 (replicate 11 10) ≡ 10)
-unfolding three descriptionFault rowOf rangeFaultOf rangeFault edgeFaultOf sumFaultOf codesAccepted overLines fieldBytes u32At ones onesIn
+unfolding three descriptionFault kindOf range-kind.fault rangeFault edge-kind.fault sum-kind.fault allWithin overLines fieldBytes u32At ones onesIn
 descriptions = (refl, refl, refl, refl, refl)
 
 -- mask FFFFFFFF, 1..FFFFFFFF: 2^k - 1 is FFFFFFFF
 pub widest : descriptionFault 1 (three 1 0xFFFFFFFF 0xFFFFFFFF) ≡ 0
-unfolding three descriptionFault rowOf rangeFaultOf rangeFault fieldBytes u32At onesIn
+unfolding three descriptionFault kindOf range-kind.fault rangeFault fieldBytes u32At onesIn
 widest = let k : ones 0xFFFFFFFF ≡ 32 = sym (ones-in 32 0xFFFFFFFF (lit< tt)) in rw k
 
 pub widest-sheet : verdict (sheetWith 1 (three 1 0xFFFFFFFF 0xFFFFFFFF)) ≡ Accepted
-unfolding three descriptionSize rowOf
+unfolding three descriptionSize kindOf
 widest-sheet = sheet-with 1 (three 1 0xFFFFFFFF 0xFFFFFFFF) (lit< tt) (fields-length (1 ∷ 0xFFFFFFFF ∷ 0xFFFFFFFF ∷ [])) widest
 
 -- the longest sheet
@@ -143,7 +146,7 @@ unfolding labelled blank term sum three sheet slots full joined render fieldByte
 full-length = refl
 
 pub full-accepted : verdict full ≡ Accepted
-unfolding labelled blank term sum three sheet slots full joined render verdict sectionsVerdict sectionVerdict countVerdict recordsVerdict recordFault descriptionFault noFault rangeFaultOf rangeFault edgeFaultOf sumFaultOf codesAccepted overLines allWithin u32At fieldBytes rowOf mostOf descriptionSize ones onesIn
+unfolding labelled blank term sum three sheet slots full joined render verdict sectionsVerdict sectionVerdict countVerdict recordsVerdict recordFault descriptionFault term-kind.fault range-kind.fault rangeFault edge-kind.fault sum-kind.fault overLines allWithin u32At fieldBytes kindOf mostOf descriptionSize ones onesIn
 full-accepted = refl
 
 -- it has the most records that each section may have
@@ -152,5 +155,5 @@ pub full-counts :
     × (length (getD (parse full) 1 []) ≡ 2)
     × (length (getD (parse full) 2 []) ≡ 2)
     × (length (getD (parse full) 3 []) ≡ 48)
-unfolding labelled blank term sum three sheet slots full joined render fieldBytes descriptionSize rowOf recordsFrom sectionsFrom parse
+unfolding labelled blank term sum three sheet slots full joined render fieldBytes descriptionSize kindOf recordsFrom sectionsFrom parse
 full-counts = (refl, refl, refl, refl)

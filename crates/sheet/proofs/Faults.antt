@@ -8,6 +8,7 @@ use mathlib.Core.Path.{_≡_, refl, _∙_}
 use lib.Dec.{eqb, ltb, leb}
 use lib.ListN.{length}
 use Rattle.buffer.specs.Bytes.{allWithin}
+use Rattle.buffer.specs.Verdict.{faultUnless}
 use Rattle.records.specs.Sections.{faultIf, mostOf, descriptionFault, recordSize, slotOf, labelOf, descriptionOf}
 use Rattle.sheet.specs.Reading.{recordFault}
 use Rattle.sheet.specs.Parsed.{Faultless}
@@ -16,7 +17,7 @@ use Rattle.sheet.specs.Parsed.{Faultless}
 abbrev pub firstFault : ℕ → ℕ → ℕ
 firstFault first second = cond (eqb first 0) second first
 
-label-first : (w : Bool) (later : ℕ) → faultIf (not w) 5 later ≡ firstFault (faultIf (not w) 5 0) later
+label-first : (w : Bool) (later : ℕ) → faultIf (not w) 5 later ≡ firstFault (faultUnless w 5) later
 label-first true later = refl
 label-first false later = refl
 
@@ -38,7 +39,7 @@ module _ (k floor : ℕ) (r : List ℕ) where
       module _ (rising : floor ≤ slotOf r) where
         -- the label's fault before the description's
         pub record-rest : recordFault k floor r
-            ≡ firstFault (faultIf (not (allWithin 0x20 0x7E (labelOf r))) 5 0) (descriptionFault k (descriptionOf r))
+            ≡ firstFault (faultUnless (allWithin 0x20 0x7E (labelOf r)) 5) (descriptionFault k (descriptionOf r))
         unfolding recordFault
         record-rest =
             simp (le-ltb (length r) (recordSize k) whole, lt-leb (mostOf k) (slotOf r) fit, le-ltb (slotOf r) floor rising)

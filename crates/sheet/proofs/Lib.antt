@@ -5,9 +5,9 @@ pub mod Parsed
 pub mod Records
 pub mod Found
 pub mod Longest
-pub mod Written
 pub mod Descriptions
-pub mod AcceptedKinds
 pub mod Examples
 pub mod Places
 pub mod Theorems
+pub mod Laid
+pub mod Numbered

@@ -35,7 +35,7 @@ longest s ok =
 
 -- ---- what is read of a sheet does not depend on the bytes past the longest
 
-drop-take : (a m : ℕ) (l : List ℕ) → drop a (take m l) ≡ take (m - a) (drop a l)
+pub drop-take : (a m : ℕ) (l : List ℕ) → drop a (take m l) ≡ take (m - a) (drop a l)
 drop-take zero m l = ap (λ (n : ℕ). take n l) (sym (sub-zero m))
 drop-take (suc a) zero l = let z : zero - suc a ≡ 0 = omega arith in rw z
 drop-take (suc a) (suc m) [] = sym (take-nil (suc m - suc a))

@@ -1,4 +1,4 @@
--- What 01 says of the set-up sheet, sentence by sentence. Assumes nothing.
+-- What is promised of the set-up sheet, each under the rule that asks for it. Assumes nothing.
 use Prim.Native.Nat.{ℕ, _≤_, _<_}
 use mathlib.Core.List.{List, [], _∷_}
 use mathlib.Core.Logic.{_↔_}
@@ -8,12 +8,13 @@ use lib.ListN.{length, getD, take}
 use Rattle.buffer.specs.Bytes.{Bytes}
 use Rattle.buffer.specs.declared.Verdict.the-variants.{Accepted, Refused}
 use Rattle.buffer.proofs.Within.{within-at}
-use Rattle.records.specs.Sections.{sections, rowOf, mostOf, descriptionSize, descriptionFault, slotOf, labelOf}
+use Rattle.records.specs.Sections.{sections, kindOf, mostOf, descriptionSize, descriptionFault, slotOf, labelOf}
 use Rattle.sheet.specs.Reading.{recordsVerdict, countVerdict, sectionVerdict, sectionsVerdict, verdict}
 use Rattle.records.specs.Records.{recordAt, recordCount, find, front}
 use Rattle.sheet.specs.Parts.{sectionUnchecked, sectionOf}
 use Rattle.sheet.specs.Parsed.{joined, render, Faultless, WellFormed, parse, AcceptedDescription}
-use Rattle.sheet.proofs.AcceptedKinds.{accepted-description}
+use Rattle.kinds.specs.Table as kinds
+use Rattle.sheet.proofs.Descriptions.{accepted-description}
 use Rattle.sheet.proofs.Examples.{full, full-length, full-accepted}
 use Rattle.sheet.proofs.Found.{Stands, find-found, find-none, find-at, cursor, cursor-find}
 use Rattle.sheet.proofs.Longest.{longestFrom, longest, enough-read}
@@ -30,14 +31,14 @@ pub record Arranged (s : List ℕ) : Type 0 where
   pub formed : WellFormed parts
   pub is : render parts ≡ s
 
--- 01: "Four sections in this order, each after a one-byte count. .. Nothing follows the last section": accepted are exactly these
+-- accepted sheets are exactly these [S1, S3, S4, S7]
 pub accepted-iff-arranged : (s : List ℕ) → (verdict s ≡ Accepted) ↔ Arranged s
 accepted-iff-arranged s = (
   λ ok. record { parts = parse s; formed = accepted-well-formed s ok; is = accepted-rendered s ok },
   λ a. ap verdict (sym (a .is)) ∙ render-accepted (a .parts) (a .formed),
 )
 
--- the same as two inverse maps, between accepted sheets and well-formed sections
+-- the same as two inverse maps, between accepted sheets and well-formed sections [S11]
 pub accepted-wellformed : (s : List ℕ) → verdict s ≡ Accepted → WellFormed (parse s)
 accepted-wellformed = accepted-well-formed
 
@@ -50,32 +51,32 @@ wellformed-accepted = render-accepted
 pub parse-rendered : (p : List (List (List ℕ))) → WellFormed p → parse (render p) ≡ p
 parse-rendered = parse-render
 
--- 01: "The longest sheet has 1,218 bytes": none is longer, and one has
+-- no sheet has more than 1,218 bytes, and one has as many [S8]
 pub at-most : (s : List ℕ) → verdict s ≡ Accepted → length s ≤ 1218
-unfolding longestFrom mostOf descriptionSize rowOf
+unfolding longestFrom mostOf descriptionSize kindOf
 at-most s ok = longest s ok
 
 pub one-has : (verdict full ≡ Accepted) × (length full ≡ 1218)
 one-has = (full-accepted, full-length)
 
--- 01: "four zero bytes are a sheet"
+-- four bytes, all 0, are a sheet [S8]
 pub four-zeros : verdict (0 ∷ 0 ∷ 0 ∷ 0 ∷ []) ≡ Accepted
-unfolding verdict sectionsVerdict sectionVerdict countVerdict recordsVerdict mostOf descriptionSize rowOf
+unfolding verdict sectionsVerdict sectionVerdict countVerdict recordsVerdict mostOf descriptionSize kindOf
 four-zeros = refl
 
--- so a program that reads 1,219 bytes of a file judges the whole file
+-- so a program that reads 1,219 bytes of a file judges the whole file [A9]
 pub enough : (s : List ℕ) → verdict (take 1219 s) ≡ verdict s
-unfolding longestFrom mostOf descriptionSize rowOf
+unfolding longestFrom mostOf descriptionSize kindOf
 enough s = enough-read 1219 s (lit< tt)
 
--- 01, 'Refusal numbers': the place of a sheet's refusal is an offset, at most the sheet's length
+-- the place of a sheet's refusal is an offset, at most the sheet's length [F1, F11]
 pub refused-within : (s : List ℕ) (number place : ℕ) → verdict s ≡ Refused number place → place ≤ length s
 refused-within = place-within
 
 -- ---- the sections and records of an accepted sheet
 
 module _ (s : List ℕ) (k : ℕ) (h : k < sections) (ok : verdict s ≡ Accepted) where
-  -- 01: "gets the part of its own bytes holding that section's records, without the count"
+  -- the part of a section is its records, one behind the other, without the count [S9]
   pub section-is : sectionOf s k ≡ joined (getD (parse s) k [])
   section-is = section-joined s k h ok
 
@@ -85,19 +86,19 @@ module _ (s : List ℕ) (k : ℕ) (h : k < sections) (ok : verdict s ≡ Accepte
   pub section-record : (i : ℕ) → i < length (getD (parse s) k []) → recordAt k (sectionOf s k) i ≡ getD (getD (parse s) k []) i []
   section-record i l = ap (λ (part : List ℕ). recordAt k part i) section-is ∙ record-of (section-ordered s k h ok) i l
 
-  -- 01: "Slots are one byte, below the section's most", labels and descriptions without fault
+  -- each record is without fault: slot, label and description [S3, S4]
   pub record-is-faultless : (i : ℕ) → i < length (getD (parse s) k []) → Faultless k 0 (getD (getD (parse s) k []) i [])
   record-is-faultless = record-faultless (section-ordered s k h ok)
 
-  -- 01: ".. strictly rising within it"
+  -- and the slots of a section rise [S3]
   pub slots-are-rising : (i j : ℕ) → i < j → j < length (getD (parse s) k []) → slotOf (getD (getD (parse s) k []) i []) < slotOf (getD (getD (parse s) k []) j [])
   slots-are-rising = slots-rise (section-ordered s k h ok)
 
-  -- 01: "A shared slot is a slot number that the same section has .., wherever its records stand there": each record is found by its slot,
+  -- each record is found by its slot, at whatever place it stands, [G9]
   pub record-found : (i : ℕ) → i < length (getD (parse s) k []) → find (slotOf (getD (getD (parse s) k []) i [])) (getD (parse s) k []) ≡ getD (getD (parse s) k []) i []
   record-found = find-at (section-ordered s k h ok)
 
-  -- and a cursor that meets the slots in rising order meets the same records
+  -- and a cursor that meets the slots in rising order meets the same records [G9, N2]
   pub walk-finds : (slot : ℕ) → front slot (cursor slot (getD (parse s) k [])) ≡ find slot (getD (parse s) k [])
   walk-finds = cursor-find (section-ordered s k h ok)
 
@@ -108,24 +109,24 @@ found-stands = find-found
 pub found-nothing : (slot : ℕ) (rs : List (List ℕ)) → ((i : ℕ) → i < length rs → slotOf (getD rs i []) ≡ slot → ⊥) → find slot rs ≡ []
 found-nothing = find-none
 
--- 01: "Label bytes are 20 to 7E hex"
+-- each label byte is from 0x20 to 0x7E [S4]
 pub label-byte : (k floor : ℕ) (r : List ℕ) → Faultless k floor r → (i : ℕ) → i < length (labelOf r) → (0x20 ≤ getD (labelOf r) i 0) × (getD (labelOf r) i 0 ≤ 0x7E)
 label-byte k floor r f i l = within-at 0x20 0x7E (labelOf r) i (f .label-fits) l
 
--- 01: "a refused sheet, or a section number above 3, gives an empty part"
+-- the part is empty when the sheet is refused, and when no sheet has the section [S10, D1.4]
 pub refused-empty : (s : List ℕ) (k number place : ℕ) → verdict s ≡ Refused number place → sectionOf s k ≡ []
 refused-empty s k number place e = section-refused s k number place e
 
 pub unknown-empty : (s : List ℕ) (k : ℕ) → 3 < k → sectionOf s k ≡ []
 unknown-empty s k h = section-unknown s k h
 
--- after one check, `section_unchecked` hands out the same parts as `section`
+-- after one check, `section_unchecked` hands out the same parts as `section` [S12]
 pub unchecked-is-section : (s : List ℕ) (k : ℕ) → verdict s ≡ Accepted → sectionUnchecked s k ≡ sectionOf s k
 unchecked-is-section s k ok = sym (unchecked s k ok)
 
 -- ---- descriptions
 
--- 01: "A description .. is accepted if some accepted sheet has it": those with their section's size and no fault
+-- an accepted sheet holds a description exactly if it has its section's size and is accepted by meaning [G2]
 pub description-iff : (k : ℕ) (d : List ℕ) → k < sections → Bytes d
-    → AcceptedDescription k d ↔ ((length d ≡ descriptionSize k) × (descriptionFault k d ≡ 0))
+    → AcceptedDescription k d ↔ ((length d ≡ descriptionSize k) × kinds.Accepted k d)
 description-iff = accepted-description

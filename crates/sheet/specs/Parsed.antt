@@ -1,4 +1,5 @@
--- A sheet taken apart: for each section the list of its records, and each record its bytes; and what makes such a list a sheet.
+-- A sheet taken apart: for each section the list of its records, and each record its bytes; and what makes such a list
+-- a sheet.
 use Prim.Native.Nat.{ℕ, zero, suc, _+_, _≤_, _<_}
 use mathlib.Core.Bool.{true}
 use mathlib.Core.List.{List, [], _∷_, _++_}
@@ -11,17 +12,17 @@ use Rattle.sheet.specs.Reading.{verdict}
 use Rattle.records.specs.Records.{recordAt, recordCount, recordsFrom}
 use Rattle.sheet.specs.Parts.{sectionOf}
 
--- 01, 'The set-up sheet': records one after the other
+-- records one behind the other [S1]
 unfoldable pub joined : List (List ℕ) → List ℕ
 joined [] = []
 joined (r ∷ rs) = r ++ joined rs
 
--- 01, 'The set-up sheet': sections in order, each after a one-byte count, and nothing after the last
+-- sections in order, each a count and its records, with nothing between and nothing behind [S1, S7, S11]
 unfoldable pub render : List (List (List ℕ)) → List ℕ
 render [] = []
 render (rs ∷ ss) = length rs ∷ (joined rs ++ render ss)
 
--- 01, 'The set-up sheet': a record of section k without fault, its slot at least `floor`
+-- a record of section k without fault, its slot at least `floor` [S3, S4, G2]
 pub record Faultless (k floor : ℕ) (r : List ℕ) : Type 0 where
   pub whole : length r ≡ recordSize k
   pub slot-fits : slotOf r < mostOf k
@@ -29,32 +30,32 @@ pub record Faultless (k floor : ℕ) (r : List ℕ) : Type 0 where
   pub label-fits : allWithin 0x20 0x7E (labelOf r) ≡ true
   pub description-fits : descriptionFault k (descriptionOf r) ≡ 0
 
--- 01, 'The set-up sheet': such records of section k, the slots strictly rising from `floor` on
+-- such records of section k, each slot above the one before, from `floor` on [S3]
 pub data Ordered (k : ℕ) : ℕ → List (List ℕ) → Type 0 where
   done : {floor : ℕ} → Ordered k floor []
   next : {floor : ℕ} {r : List ℕ} {rs : List (List ℕ)} → Faultless k floor r → Ordered k (slotOf r + 1) rs → Ordered k floor (r ∷ rs)
 
--- 01, 'The set-up sheet': sections from section k on, each of such records
+-- sections from section k on, each of such records [S1]
 pub data Sections : ℕ → List (List (List ℕ)) → Type 0 where
   done : {k : ℕ} → Sections k []
   next : {k : ℕ} {rs : List (List ℕ)} {ss : List (List (List ℕ))} → Ordered k 0 rs → Sections (k + 1) ss → Sections k (rs ∷ ss)
 
--- 01, 'The set-up sheet': all the sections of a sheet
+-- all the sections of a sheet, each of such records [S1, S7]
 pub record WellFormed (p : List (List (List ℕ))) : Type 0 where
   pub all : length p ≡ sections
   pub good : Sections 0 p
 
--- 01, 'The set-up sheet': the first n sections from section k on
+-- the first n sections from section k on, as the counts there say [S12]
 unfoldable pub sectionsFrom : ℕ → ℕ → List ℕ → List (List (List ℕ))
 sectionsFrom zero k rest = []
 sectionsFrom (suc n) k rest =
     recordsFrom k (getD rest 0 0) (drop 1 rest) ∷ sectionsFrom n (k + 1) (drop (sectionSize k (getD rest 0 0)) rest)
 
--- 01, 'The set-up sheet': the sections of a sheet
+-- the sections of a sheet and their records [S11, S12]
 unfoldable pub parse : List ℕ → List (List (List ℕ))
 parse s = sectionsFrom sections 0 s
 
--- 01, 'Plain rules of a hit': a description 'is accepted if some accepted sheet has it', here in section k
+-- an accepted sheet has d in a record of section k (*accepted* is the buyer's term) [G2]
 pub record AcceptedDescription (k : ℕ) (d : List ℕ) : Type 0 where
   pub sheet : List ℕ
   pub place : ℕ

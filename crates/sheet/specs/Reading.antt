@@ -1,4 +1,4 @@
--- What reading a sheet gives. It is read left to right, and the first fault wins. `rest` is what is still to be read, and `at` its
+-- What reading a sheet gives: the first fault from left to right. `rest` is what is still to be read, and `at` its
 -- offset in the sheet.
 use Prim.Native.Nat.{ℕ, zero, suc, _+_}
 use mathlib.Core.Bool.{not}
@@ -11,7 +11,7 @@ use Rattle.buffer.specs.declared.Verdict.{Verdict}
 use Rattle.buffer.specs.declared.Verdict.the-variants.{Accepted}
 use Rattle.records.specs.Sections.{faultIf, sections, mostOf, recordSize, sectionSize, descriptionFault, slotOf, labelOf, descriptionOf}
 
--- 01, 'Refusal numbers': in a record of section k the checks go 1, then 3 to 10 rising; its slot has to be at least `floor`
+-- a record's lowest refusal number, 0 if it has none; its slot has to be at least `floor` [O1, O3, F1, F3, F4, F5]
 unfoldable pub recordFault : ℕ → ℕ → List ℕ → ℕ
 recordFault k floor r =
     faultIf (ltb (length r) (recordSize k)) 1
@@ -20,32 +20,32 @@ recordFault k floor r =
     (faultIf (not (allWithin 0x20 0x7E (labelOf r))) 5
     (descriptionFault k (descriptionOf r)))))
 
--- 01, 'The set-up sheet': the bytes of the next record of section k, fewer where the sheet ends
+-- the bytes of the next record of section k, fewer where the sheet ends [S1, B4]
 abbrev pub nextRecord : ℕ → List ℕ → List ℕ
 nextRecord k rest = take (recordSize k) rest
 
--- 01, 'Refusal numbers': n records of section k, slots 'strictly rising' from `floor` on; a fault's place is the record
+-- n records of section k, each slot above the one before, from `floor` on; a fault's place is its record [O1, F1, F4]
 unfoldable pub recordsVerdict : ℕ → ℕ → ℕ → ℕ → List ℕ → Verdict
 recordsVerdict k zero floor at rest = Accepted
 recordsVerdict k (suc n) floor at rest =
     andThen (refuseFault (recordFault k floor (nextRecord k rest)) at)
     (recordsVerdict k n (slotOf (nextRecord k rest) + 1) (at + recordSize k) (drop (recordSize k) rest))
 
--- 01, 'Refusal numbers', 1 and 2: the count of section k, missing or above the most; the place is the count
+-- the count of section k is missing, or above the section's most; the place is the count [O2, F1, F2]
 unfoldable pub countVerdict : ℕ → ℕ → List ℕ → Verdict
 countVerdict k at rest = andThen (refuseIf (ltb (length rest) 1) 1 at) (refuseIf (ltb (mostOf k) (getD rest 0 0)) 2 at)
 
--- 01, 'Refusal numbers': a count is tested before its records
+-- a section's count, and then its records [O2]
 unfoldable pub sectionVerdict : ℕ → ℕ → List ℕ → Verdict
 sectionVerdict k at rest = andThen (countVerdict k at rest) (recordsVerdict k (getD rest 0 0) 0 (at + 1) (drop 1 rest))
 
--- 01, 'Refusal numbers': n sections from section k on; 11, at the first of the bytes left over
+-- n sections from section k on; 11 where bytes are left behind them, at the first of these [O1, O3, F11]
 unfoldable pub sectionsVerdict : ℕ → ℕ → ℕ → List ℕ → Verdict
 sectionsVerdict zero k at rest = refuseIf (ltb 0 (length rest)) 11 at
 sectionsVerdict (suc n) k at rest =
     andThen (sectionVerdict k at rest)
     (sectionsVerdict n (k + 1) (at + sectionSize k (getD rest 0 0)) (drop (sectionSize k (getD rest 0 0)) rest))
 
--- 01, 'Refusal numbers': the verdict on a sheet, accepted or its first fault by number and place
+-- the verdict on a sheet: accepted, or its first fault by number and place [O1, D1.2]
 unfoldable pub verdict : List ℕ → Verdict
 verdict s = sectionsVerdict sections 0 0 s

@@ -1,15 +1,15 @@
 // The verdict on a sheet: read left to right, the first fault wins.
 ghost use mathlib.Core.Path.{_≡_};
-ghost use mathlib.Core.Bool.{not, cond};
+ghost use mathlib.Core.Bool.{cond};
 ghost use lib.Dec.{eqb};
 ghost use lib.ListN.{drop};
 ghost use Rattle.buffer.specs.Bytes.{allWithin};
-ghost use Rattle.records.specs.Sections.{faultIf};
+ghost use Rattle.buffer.specs.Verdict.{faultUnless};
 ghost use Rattle.sheet.specs.Reading.{recordFault, recordsVerdict, sectionVerdict, verdict};
 use buffer::Verdict;
-use records::SECTIONS;
+use kinds::SECTIONS;
+use kinds::fault;
 use records::description;
-use records::description_fault;
 use records::label;
 use records::most;
 use records::record_size;
@@ -38,7 +38,7 @@ const LABEL_LAST: u8 = 0x7e;
 
 // The fault of a label, 0 if it has none.
 fn label_fault(bytes: &[u8]) -> u8
-    ensures { λ r. ⌜ r ≡ faultIf (not (allWithin 0x20 0x7E (now (bytes .entry)))) 5 0 ⌝ }
+    ensures { λ r. ⌜ r ≡ faultUnless (allWithin 0x20 0x7E (now (bytes .entry))) 5 ⌝ }
 {
     if buffer::all_within(LABEL_FIRST, LABEL_LAST, bytes) {
         NO_FAULT
@@ -69,7 +69,7 @@ fn record_fault(section: usize, floor: usize, bytes: &[u8]) -> u8
         return SLOT_NOT_RISING;
     }
     let of_label = label_fault(label(bytes));
-    let of_description = description_fault(section, description(bytes));
+    let of_description = fault(section, description(bytes));
     first_fault(of_label, of_description)
 }
 

@@ -2,12 +2,15 @@
 ghost use mathlib.Core.Path.{_≡_};
 ghost use Prim.Native.Nat.{_*_, _≤_, _<_};
 ghost use Rattle.buffer.specs.Part.{Part};
+ghost use Rattle.buffer.specs.declared.Verdict.the-variants.{Accepted};
 ghost use Rattle.records.specs.Sections.{sections};
-ghost use Rattle.sheet.specs.Parts.{offsetOf, sectionUnchecked, sectionOf, sectionStart, spanOf};
+ghost use Rattle.sheet.specs.Parts.{offsetOf, sectionUnchecked, sectionOf, sectionStart, spanOf, judgedOf};
+ghost use Rattle.sheet.specs.Reading.{verdict};
+use crate::Judged;
 use crate::Span;
 use crate::judge::check;
 use buffer::Verdict;
-use records::SECTIONS;
+use kinds::SECTIONS;
 use records::section_size;
 
 // The offset of a section's count, by the counts before it. A section has at most 262,144 bytes, whatever its count says.
@@ -24,8 +27,8 @@ fn section_offset(sheet: &[u8], number: usize) -> usize
     at
 }
 
-// The same part as `section`, for bytes that `check` has accepted: for a caller that asks for all the sections of one sheet.
-pub fn section_unchecked<'a>(sheet: &'a [u8], number: usize) -> &'a [u8]
+// The same part as `section`, for bytes that `check` has accepted.
+fn section_unchecked<'a>(sheet: &'a [u8], number: usize) -> &'a [u8]
     ensures { λ r. ⌜ now r ≡ sectionUnchecked (now (sheet .entry)) number ⌝ }
 {
     if SECTIONS <= number {
@@ -78,5 +81,44 @@ pub fn section_span(sheet: &[u8], number: usize) -> Span
         refusal: 0,
         start: section_offset(sheet, number) + 1,
         size,
+    }
+}
+
+// Where the sections of an accepted sheet lie.
+fn lay_out(sheet: &[u8]) -> Judged
+    requires { ⌜ verdict (now sheet) ≡ Accepted ⌝ }
+    ensures { λ r. ⌜ r ≡ judgedOf (now (sheet .entry)) ⌝ }
+{
+    let mut starts = [0usize; SECTIONS];
+    let mut sizes = [0usize; SECTIONS];
+    let mut at: usize = 0;
+    let mut section: usize = 0;
+    while section < SECTIONS {
+        let size = section_size(section, buffer::byte_at(sheet, at));
+        starts[section] = at + 1;
+        sizes[section] = size - 1;
+        at += size;
+        section += 1;
+    }
+    Judged {
+        refusal: 0,
+        place: 0,
+        starts,
+        sizes,
+    }
+}
+
+// The verdict on a sheet and where all its sections lie, in numbers: for a caller that needs every section of one sheet.
+pub fn judge_parts(sheet: &[u8]) -> Judged
+    ensures { λ r. ⌜ r ≡ judgedOf (now (sheet .entry)) ⌝ }
+{
+    match check(sheet) {
+        Verdict::Refused(refusal, place) => Judged {
+            refusal,
+            place,
+            starts: [0; SECTIONS],
+            sizes: [0; SECTIONS],
+        },
+        Verdict::Accepted => lay_out(sheet),
     }
 }

@@ -1,7 +1,8 @@
 pub mod Tables
 pub mod Meanings
 pub mod Walk
-pub mod Back
+pub mod ReadingBack
 pub mod Cases
+pub mod Eleven
 pub mod Theorems
-pub mod Addresses
+pub mod Ways

@@ -13,7 +13,7 @@ use Rattle.lut.specs.Table.{answerAt, oneIf}
 use Rattle.lut.proofs.Halves.{low-half}
 use Rattle.sum.specs.Operation.{pairOps, midOps, finalOps, opWord, codesAccepted}
 use Rattle.sum.specs.Meaning.{pairMeans, midMeans, finalMeans, isOn, groupMeans, sumMeans}
-use Rattle.sum.specs.Chain.{joined, wordsOf}
+use Rattle.sum.specs.Words.{joined, wordsOf}
 use Rattle.sum.specs.Model.{firstPairs, lastPairs, pairAt, inputsOf, sumHit}
 use Rattle.sum.proofs.Tables.{pairs, mids, finals, op-word-lt, joined-high, joined-low, code-at}
 
@@ -49,7 +49,7 @@ module _ (ops : List ℕ) (means : ℕ → Bool → Bool → Bool → Bool → B
       eqb→eq _ _ (every-within (10 ∷ bounds) answersRight t (code ∷ oneIf p ∷ oneIf q ∷ oneIf r ∷ oneIf s ∷ []) (omega arith, w)) in
       rw (on-one p, on-one q, on-one r, on-one s) at told
 
--- "both of which must be asserted for a hit" (000, 7.2): two inputs of a pair's table to each of the two hits
+-- a pair's table has two inputs for each of its two sources, and a source counts where both are 1 [M7, W16]
 pub pair-words-mean : (code : ℕ) → code ≤ 9 → (p q r s : Bool)
     → answerAt (opWord pairOps code) (oneIf p + 2 * oneIf q + 4 * oneIf r + 8 * oneIf s) ≡ oneIf (pairMeans code (p && q) (r && s))
 unfolding answersRight
@@ -61,7 +61,7 @@ pub mid-words-mean : (code : ℕ) → code ≤ 9 → (p q r s : Bool)
 unfolding answersRight
 mid-words-mean code h p q r s = stage-means midOps midMeans (digits 4) tt code h p q r s (one-lt p, (one-lt q, (one-lt r, (one-lt s, tt))))
 
--- "zeros above"
+-- nothing drives the two inputs above [M8]
 pub final-words-mean : (code : ℕ) → code ≤ 9 → (p q : Bool)
     → answerAt (opWord finalOps code) (oneIf p + 2 * oneIf q) ≡ oneIf (finalMeans code p q)
 unfolding answersRight

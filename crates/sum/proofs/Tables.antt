@@ -1,21 +1,22 @@
 -- The three tables of operation words: no word stands twice in one, and each has sixteen bits. One computed test, and the laws of any table that
 -- passes it. Assumes nothing.
-use Prim.Native.Nat.{ℕ, zero, suc, _≤_, _<_}
+use Prim.Native.Nat.{ℕ, zero, suc, zero-le, _≤_, _<_, _^_}
 use mathlib.Core.Path.{_≡_, refl, sym, ap, ap₂, _∙_}
 use mathlib.Core.Bool.{Bool, true, false, cond, _&&_}
 use mathlib.Core.List.{List, [], _∷_}
 use native.Mathlib.Decide.{decLt}
 use native.Mathlib.Nat.{not-suc-le-zero, le-of-suc-le-suc, div-add-mod'}
 use native.Mathlib.Omega.{arith}
-use borrow.Author.Tests.{eqb-true, leb-true}
+use borrow.Author.Tests.{eqb-true}
 use lib.Dec.{T, eqb, eqb→eq, leb, ltb, ltb→lt, lit<}
 use lib.ListN.{length, getD, List·getD-eq-default}
 use Rattle.lines.proofs.Computed.{everyBelow, every-below}
-use Rattle.lines.proofs.Truth.{and-left, and-right, both-true}
+use Rattle.lines.proofs.Truth.{and-left, and-right}
 use Rattle.lut.specs.Table.{high, low, wordOf}
-use Rattle.lut.proofs.Halves.{high-half, low-half}
+use Rattle.lut.proofs.Halves.{high-half, low-half, word-lt}
 use Rattle.sum.specs.Operation.{pairOps, midOps, finalOps, opWord, opCode, codesAccepted}
-use Rattle.sum.specs.Chain.{joined}
+use Rattle.buffer.proofs.Within.{within-at}
+use Rattle.sum.specs.Words.{joined, wordsOf}
 
 -- the word of code c has sixteen bits, and its code is c
 unfoldable pub entryRight : List ℕ → ℕ → Bool
@@ -84,7 +85,43 @@ joined-codes ops t w hh hl =
 
 -- accepted bytes are codes, at every place
 pub code-at : (codes : List ℕ) → codesAccepted codes ≡ true → (i : ℕ) → getD codes i 0 ≤ 9
-unfolding codesAccepted
-code-at [] e i = omega arith
-code-at (x ∷ codes) e zero = leb-true x 9 (both-true (leb x 9) (codesAccepted codes) e .0)
-code-at (x ∷ codes) e (suc i) = code-at codes (both-true (leb x 9) (codesAccepted codes) e .1) i
+code-at codes e i =
+    elim (decLt i (length codes)) [
+      | yes h ↦ within-at 0 9 codes i e h .1
+      | no h ↦ rw (List·getD-eq-default codes 0 {n = i} (omega arith)) zero-le
+    ]
+
+-- ---- the words of a sum have 32 bits each
+
+-- each number of a list fits a word
+abbrev Fit : List ℕ → Type 0
+Fit [] = Unit
+Fit (x ∷ xs) = (x < 2 ^ 32) × Fit xs
+
+fit-at : (xs : List ℕ) → Fit xs → (i : ℕ) → getD xs i 0 < 2 ^ 32
+fit-at [] h i = lit< tt
+fit-at (x ∷ xs) h zero = h .0
+fit-at (x ∷ xs) h (suc i) = fit-at xs (h .1) i
+
+joined-fits : (ops : List ℕ) → TenWords ops → (h l : ℕ) → joined ops h l < 2 ^ 32
+joined-fits ops t h l = word-lt (opWord ops h) (opWord ops l) (op-word-lt ops t h) (op-word-lt ops t l)
+
+pub words-small : (ops : List ℕ) (i : ℕ) → getD (wordsOf ops) i 0 < 2 ^ 32
+unfolding wordsOf
+words-small b =
+    fit-at (wordsOf b) (
+      word-lt 0 (opWord finalOps (getD b 10 0)) (lit< tt) (op-word-lt finalOps finals (getD b 10 0)),
+      (
+        joined-fits midOps mids (getD b 9 0) (getD b 8 0),
+        (
+          joined-fits pairOps pairs (getD b 7 0) (getD b 6 0),
+          (
+            joined-fits pairOps pairs (getD b 5 0) (getD b 4 0),
+            (
+              joined-fits pairOps pairs (getD b 3 0) (getD b 2 0),
+              (joined-fits pairOps pairs (getD b 1 0) (getD b 0 0), tt),
+            ),
+          ),
+        ),
+      ),
+    )

@@ -1,32 +1,25 @@
--- What is promised of sums, each under the sentence that asks for it. Assumes nothing.
-use Prim.Native.Nat.{ℕ, zero, suc, _^_, _≤_, _<_}
-use mathlib.Core.Path.{_≡_, refl, subst}
-use mathlib.Core.Bool.{Bool, true, false, cond}
-use mathlib.Core.List.{List, [], _∷_}
-use lib.Dec.{eqb, lit<}
-use lib.ListN.{length, getD, replicate}
-use Rattle.lines.proofs.Truth.{both-true}
+-- What is promised of sums. Assumes nothing.
+use Prim.Native.Nat.{ℕ, _≤_}
+use mathlib.Core.Path.{_≡_, refl, ap, sym, _∙_}
+use mathlib.Core.Bool.{Bool, true, false, true≢false}
+use mathlib.Core.List.{List}
+use mathlib.Core.Logic.{_↔_}
 use Rattle.lut.specs.Answer.{hitOrMiss}
-use Rattle.lut.proofs.Halves.{word-lt}
 use Rattle.lut.proofs.Runs.{run-needed}
 use Rattle.sum.specs.declared.ReadSum.{ReadSum}
-use Rattle.sum.specs.Operation.{pairOps, midOps, finalOps, opWord, codesAccepted}
+use Rattle.sum.specs.Operation.{pairOps, midOps, finalOps, opWord, Accepted}
 use Rattle.sum.specs.Meaning.{sumMeans}
-use Rattle.sum.specs.Chain.{joined, wordsOf}
-use Rattle.sum.specs.Model.{sumHit, runSum}
-use Rattle.sum.specs.Reading.{WrittenBy, SaysSum, codesOf, known, readSum}
-use Rattle.sum.proofs.Tables.{TenWords, pairs, mids, finals, op-word-lt, words-differ}
-use Rattle.sum.proofs.Meanings as meanings
-use Rattle.sum.proofs.Back as back
+use Rattle.sum.specs.Words.{wordsOf}
+use Rattle.sum.specs.Model.{runSum}
+use Rattle.sum.specs.Back.{Says, readSum}
+use Rattle.sum.proofs.Tables.{pairs, mids, finals, words-differ}
+use Rattle.sum.proofs.Meanings.{sum-model}
+use Rattle.sum.proofs.ReadingBack as back
 
--- "an accepted sheet gives the very chain words of the Logic Sniffer Specification" (demand 2): run, a sum's words do what its operations mean there
-pub words-do-the-operations : (ops : List ℕ) (sources : ℕ) → codesAccepted ops ≡ true → sumHit (wordsOf ops) sources ≡ sumMeans ops sources
-words-do-the-operations = meanings.sum-model
-
--- the same of the call
-pub run-does-the-operations : (ops : List ℕ) (sources : ℕ) → codesAccepted ops ≡ true
-    → runSum (wordsOf ops) sources ≡ hitOrMiss (sumMeans ops sources)
-run-does-the-operations b s ok = run-needed 6 (wordsOf b) _ _ (back.words-length b) (meanings.sum-model b s ok)
+-- over an accepted sum's words the model hits exactly when its operations do, as the source document means them
+-- [W16, M8]
+pub run-hits : (ops : List ℕ) → Accepted ops → (sources : ℕ) → runSum (wordsOf ops) sources ≡ hitOrMiss (sumMeans ops sources)
+run-hits ops a s = run-needed 6 (wordsOf ops) _ _ (back.words-length ops) (sum-model ops s (a .codes))
 
 -- each table has ten different words
 pub operations-differ : (c d : ℕ) → c ≤ 9 → d ≤ 9
@@ -39,65 +32,17 @@ operations-differ c d hc hd = (
   words-differ finalOps finals c d hc hd,
 )
 
--- "Reading the commands back gives the sheet" (demand 2)
-pub read-gives-back : (ops : List ℕ) → length ops ≡ 11 → codesAccepted ops ≡ true → readSum (wordsOf ops) ≡ record { ok = true; ops = ops }
-read-gives-back b n ok = back.read-written (wordsOf b) b (record { eleven = n; accepted = ok; written = refl })
+-- an accepted sum's words are read as its operations [C5, D2.5]
+pub words-read-back : (ops : List ℕ) → Accepted ops → readSum (wordsOf ops) ≡ record { ok = true; ops = ops }
+words-read-back ops a = back.read-written (wordsOf ops) ops (record { eleven = a .eleven; accepted = a .codes; written = refl })
 
--- "accepted exactly if some accepted sheet writes it" (demand 2)
-pub read-exactly : (words ops : List ℕ)
-    → (readSum words ≡ record { ok = true; ops = ops } → WrittenBy words ops) × (WrittenBy words ops → readSum words ≡ record { ok = true; ops = ops })
-read-exactly w b = (λ e. subst (λ (r : ReadSum). SaysSum w r) e (back.read-says w), back.read-written w b)
-
--- what the crates above need: six words of 32 bits, eleven codes of a byte
-pub sum-words-length : (ops : List ℕ) → length (wordsOf ops) ≡ 6
-sum-words-length = back.words-length
-
--- each number of a list fits a word
-abbrev Fit : List ℕ → Type 0
-Fit [] = Unit
-Fit (x ∷ xs) = (x < 2 ^ 32) × Fit xs
-
-fit-at : (xs : List ℕ) → Fit xs → (i : ℕ) → getD xs i 0 < 2 ^ 32
-fit-at [] h i = lit< tt
-fit-at (x ∷ xs) h zero = h .0
-fit-at (x ∷ xs) h (suc i) = fit-at xs (h .1) i
-
-joined-fits : (ops : List ℕ) → TenWords ops → (h l : ℕ) → joined ops h l < 2 ^ 32
-joined-fits ops t h l = word-lt (opWord ops h) (opWord ops l) (op-word-lt ops t h) (op-word-lt ops t l)
-
-pub sum-words-fit : (ops : List ℕ) (i : ℕ) → getD (wordsOf ops) i 0 < 2 ^ 32
-unfolding wordsOf
-sum-words-fit b =
-    fit-at (wordsOf b) (
-      word-lt 0 (opWord finalOps (getD b 10 0)) (lit< tt) (op-word-lt finalOps finals (getD b 10 0)),
-      (
-        joined-fits midOps mids (getD b 9 0) (getD b 8 0),
-        (
-          joined-fits pairOps pairs (getD b 7 0) (getD b 6 0),
-          (
-            joined-fits pairOps pairs (getD b 5 0) (getD b 4 0),
-            (
-              joined-fits pairOps pairs (getD b 3 0) (getD b 2 0),
-              (joined-fits pairOps pairs (getD b 1 0) (getD b 0 0), tt),
-            ),
-          ),
-        ),
-      ),
-    )
-
--- also of a refused answer
-pub read-eleven : (words : List ℕ) → length (readSum words .ops) ≡ 11
-unfolding codesOf
-read-eleven w = go (known w)
+-- words are refused unless an accepted sum writes them [C5, F16, D2.6]
+pub accepted-iff-written : (words : List ℕ) → (readSum words .ok ≡ false → ⊥) ↔ ((ops : List ℕ) × (Accepted ops × (words ≡ wordsOf ops)))
+accepted-iff-written ws = (λ n. go (readSum ws .ok) (readSum ws .ops) n (back.read-says ws), written)
   where
-    go : (b : Bool) → length (cond b (codesOf w) (replicate 11 0)) ≡ 11
-    go true = refl
-    go false = refl
+    go : (ok : Bool) (ops : List ℕ) → (ok ≡ false → ⊥) → Says ws ok ops → (ops : List ℕ) × (Accepted ops × (ws ≡ wordsOf ops))
+    go true ops n w = (ops, (record { eleven = w .eleven; codes = w .accepted }, w .written))
+    go false ops n w = absurd (n refl)
 
-pub read-codes : (words : List ℕ) → codesAccepted (readSum words .ops) ≡ true
-unfolding codesAccepted
-read-codes w = go (known w) refl
-  where
-    go : (b : Bool) → known w ≡ b → codesAccepted (cond b (codesOf w) (replicate 11 0)) ≡ true
-    go true e = both-true (eqb (length w) 6) (codesAccepted (codesOf w)) e .1
-    go false e = refl
+    written : ((ops : List ℕ) × (Accepted ops × (ws ≡ wordsOf ops))) → readSum ws .ok ≡ false → ⊥
+    written (ops, (a, w)) e = true≢false (sym (ap (λ (r : ReadSum). r .ok) (ap readSum w ∙ words-read-back ops a)) ∙ e)

@@ -1,39 +1,34 @@
--- The walks over a table and over operation bytes, one element at a time: what the loops need. Assumes nothing.
-use Prim.Native.Nat.{ℕ, _+_, _≤_, _<_}
+-- The walk over a table, one element at a time: what the loop needs. Assumes nothing.
+use Prim.Native.Nat.{ℕ, zero, suc, _+_, _-_, _≤_, _<_}
 use mathlib.Core.Path.{_≡_, sym, _∙_}
-use mathlib.Core.Bool.{true, false}
 use mathlib.Core.List.{List}
+use native.Mathlib.Nat.{zero-add}
 use native.Mathlib.Numerals.{add-one}
 use native.Mathlib.Omega.{arith}
-use borrow.Author.Tests.{eq-eqb, ne-eqb, le-leb, lt-leb}
+use borrow.Author.Tests.{eq-eqb, ne-eqb}
 use lib.ListN.{length, getD, drop, drop-of-length-le}
 use lib.Seq.{drop-cons}
-use Rattle.sum.specs.Operation.{opCode, codesAccepted}
+use Rattle.sum.specs.Operation.{opCode}
 
--- the search of a word stands at place i of the table, and has not met it
-module _ (ops : List ℕ) (word i : ℕ) (before : opCode ops word ≡ i + opCode (drop i ops) word) where
-  pub code-found : i < length ops → getD ops i 0 ≡ word → i ≡ opCode ops word
+-- the search of a word, from the table's end down: its first place among those from i on
+module _ (ops : List ℕ) (word : ℕ) where
+  pub code-end : (i : ℕ) → length ops ≤ i → i ≡ i + opCode (drop i ops) word
   unfolding opCode
-  code-found h e = sym (before ∙ rw (drop-cons ops i 0 h, eq-eqb (getD ops i 0) word e) (omega arith))
+  code-end i h = rw (drop-of-length-le ops h) (omega arith)
 
-  pub code-on : i < length ops → (getD ops i 0 ≡ word → ⊥) → opCode ops word ≡ i + 1 + opCode (drop (i + 1) ops) word
+  pub code-found : (i : ℕ) → i < length ops → getD ops i 0 ≡ word → i ≡ i + opCode (drop i ops) word
   unfolding opCode
-  code-on h e = before ∙ rw (drop-cons ops i 0 h, ne-eqb (getD ops i 0) word e, add-one) (omega arith)
+  code-found i h e = rw (drop-cons ops i 0 h, eq-eqb (getD ops i 0) word e) (omega arith)
 
-  pub code-none : length ops ≤ i → i ≡ opCode ops word
+  pub code-kept : (i code : ℕ) → 0 < i → i ≤ length ops → (getD ops (i - 1) 0 ≡ word → ⊥) → code ≡ i + opCode (drop i ops) word
+      → code ≡ i - 1 + opCode (drop (i - 1) ops) word
   unfolding opCode
-  code-none h = sym (before ∙ rw (drop-of-length-le ops h) (omega arith))
+  code-kept zero code l h n e = absurd (omega arith)
+  code-kept (suc i) code l h n e =
+      let down : suc i - 1 ≡ i = omega arith in
+      let other : getD ops i 0 ≡ word → ⊥ = rw down at n in
+      rw down (let z : code ≡ i + opCode (drop i ops) word = rw (drop-cons ops i 0 h, ne-eqb (getD ops i 0) word other) (omega arith) in z)
 
--- the bytes before place i are codes
-module _ (codes : List ℕ) (i : ℕ) (before : codesAccepted codes ≡ codesAccepted (drop i codes)) where
-  pub codes-bad : i < length codes → 9 < getD codes i 0 → false ≡ codesAccepted codes
-  unfolding codesAccepted
-  codes-bad h g = sym (before ∙ rw (drop-cons codes i 0 h, lt-leb (getD codes i 0) 9 g))
-
-  pub codes-on : i < length codes → getD codes i 0 ≤ 9 → codesAccepted codes ≡ codesAccepted (drop (i + 1) codes)
-  unfolding codesAccepted
-  codes-on h g = before ∙ rw (drop-cons codes i 0 h, le-leb (getD codes i 0) 9 g, add-one)
-
-  pub codes-end : length codes ≤ i → true ≡ codesAccepted codes
-  unfolding codesAccepted
-  codes-end h = sym (before ∙ rw (drop-of-length-le codes h))
+  pub code-whole : (i code : ℕ) → i ≤ 0 → code ≡ i + opCode (drop i ops) word → code ≡ opCode ops word
+  code-whole zero code h e = e ∙ zero-add (opCode ops word)
+  code-whole (suc i) code h e = absurd (omega arith)

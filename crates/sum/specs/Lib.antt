@@ -1,6 +1,7 @@
 pub mod Operation
-pub mod Chain
+pub mod Words
 pub mod Model
 pub mod Meaning
-pub mod Reading
+pub mod Back
 pub mod Address
+pub mod Description

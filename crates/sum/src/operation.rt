@@ -2,6 +2,9 @@
 ghost use mathlib.Core.Path.{_≡_};
 ghost use Rattle.sum.specs.Operation.{opWord, opCode, codesAccepted};
 
+// The greatest operation code.
+const LAST_CODE: u8 = 9;
+
 // The operation words by code: NOP, ANY, AND, NAND, OR, NOR, XOR, NXOR, A, B.
 pub(crate) const PAIR: [u16; 10] = [
     0x0000,
@@ -43,35 +46,32 @@ pub(crate) const FINAL: [u16; 10] = [
 ];
 
 // Whether every byte is an operation code.
-pub fn codes_accepted(ops: &[u8]) -> bool
+pub(crate) fn codes_accepted(ops: &[u8]) -> bool
     ensures { λ r. ⌜ r ≡ codesAccepted (now (ops .entry)) ⌝ }
 {
-    let mut i = 0;
-    while i < ops.len() {
-        if 9 < ops[i] {
-            return false;
-        }
-        i += 1;
-    }
-    true
+    buffer::all_within(0, LAST_CODE, ops)
 }
 
-// The word of an operation code in one of the tables; 0 for a byte that is no code.
-pub(crate) fn op_word(table: [u16; 10], code: u8) -> u16
-    ensures { λ r. ⌜ r ≡ opWord table code ⌝ }
+// The word of an operation code in one of the tables, which is lent; 0 for a byte that is no code.
+pub(crate) fn op_word(table: &[u16], code: u8) -> u16
+    ensures { λ r. ⌜ r ≡ opWord (now (table .entry)) code ⌝ }
 {
     let at = code as usize;
-    if at < 10 { table[at] } else { 0 }
+    if at < table.len() { table[at] } else { 0 }
 }
 
-// The code of a word in one of the tables; 10 for a word that is not there.
+// The code of a word in one of the tables; 10 for a word that is not there. All ten are compared, the first last: a loop
+// that ends early would be mispredicted on nearly every word.
 pub(crate) fn op_code(table: [u16; 10], word: u32) -> u8
     ensures { λ r. ⌜ r ≡ opCode table word ⌝ }
 {
-    for i in 0..10 {
+    let mut code: u8 = 10;
+    let mut i: usize = 10;
+    while 0 < i {
+        i -= 1;
         if table[i] as u32 == word {
-            return i as u8;
+            code = i as u8;
         }
     }
-    10
+    code
 }

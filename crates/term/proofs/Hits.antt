@@ -8,11 +8,12 @@ use lib.ListN.{length, getD}
 use Rattle.lines.specs.Line.{overLines}
 use Rattle.lines.proofs.Digit.{line-mod}
 use Rattle.lines.proofs.Over.{lines-cong}
-use Rattle.lut.specs.Table.{answerAt, oneIf, high, low}
+use Rattle.lut.specs.Table.{answerAt, oneIf, high, low, down}
 use Rattle.lut.proofs.Halves.{high-half, low-half}
 use Rattle.lut.proofs.Tables.{table-lt, table-answer}
+use Rattle.lut.proofs.Down.{length-down, down-lt}
 use Rattle.term.specs.Rule.{linesHit, termHit}
-use Rattle.term.specs.Words.{addressHit, nibbleTable, chainWord, wordsDown, termWords}
+use Rattle.term.specs.Words.{addressHit, nibbleTable, chainWord, wordAt, termWords}
 use Rattle.term.specs.Model.{wordHit, chainHit}
 use Rattle.term.proofs.PlainRule.{hit-split, lines-formula}
 
@@ -23,7 +24,7 @@ lines-nibble : (t m s : ℕ) → linesHit 4 (t % 16) (m % 16) (s % 16) ≡ lines
 lines-nibble t m s =
     lines-cong _&&_ true 4 _ _ (λ i h. rw (line-mod t 4 i h, line-mod m 4 i h, line-mod s 4 i h))
 
--- the table's rule: 01's formula at the address
+-- the table's rule: the formula at the address [W5]
 answers : (b : Bool) → eqb (oneIf b) 1 ≡ b
 answers true = refl
 answers false = refl
@@ -65,32 +66,22 @@ word-fits t m = omega (arith, nibble-lt (t / 16 % 16) (m / 16 % 16), nibble-lt (
 
 -- ---- the chain
 
-pub words-length : (k t m : ℕ) → length (wordsDown k t m) ≡ k
-unfolding wordsDown
-words-length zero t m = refl
-words-length (suc k) t m = ap suc (words-length k t m)
-
 pub term-words-length : (t m : ℕ) → length (termWords t m) ≡ 4
 unfolding termWords
-term-words-length t m = words-length 4 t m
+term-words-length t m = length-down (wordAt t m) 4
 
 -- each word has 32 bits
-words-fit : (k t m i : ℕ) → getD (wordsDown k t m) i 0 < 2 ^ 32
-unfolding wordsDown
-words-fit zero t m i = lit< tt
-words-fit (suc k) t m zero = word-fits (t / 2 ^ (8 * k)) (m / 2 ^ (8 * k))
-words-fit (suc k) t m (suc i) = words-fit k t m i
-
 pub term-words-fit : (t m i : ℕ) → getD (termWords t m) i 0 < 2 ^ 32
 unfolding termWords
-term-words-fit t m i = words-fit 4 t m i
+term-words-fit t m =
+    down-lt (wordAt t m) (2 ^ 32) (lit< tt) (λ k. word-fits (t / 2 ^ (8 * k)) (m / 2 ^ (8 * k))) 4
 
-chain-hit : (k t m s : ℕ) → chainHit (wordsDown k t m) s ≡ linesHit (8 * k) t m s
-unfolding chainHit wordsDown overLines
+chain-hit : (k t m s : ℕ) → chainHit (down (wordAt t m) k) s ≡ linesHit (8 * k) t m s
+unfolding chainHit down overLines
 chain-hit zero t m s = refl
 chain-hit (suc k) t m s =
     let q : 8 + 8 * k ≡ 8 * suc k = omega arith in
-    rw (words-length k t m)
+    rw (length-down (wordAt t m) k)
     (ap₂ _&&_ (word-hit (t / 2 ^ (8 * k)) (m / 2 ^ (8 * k)) (s / 2 ^ (8 * k))) (chain-hit k t m s)
     ∙ sym (hit-split 8 (8 * k) t m s)
     ∙ ap (λ (n : ℕ). linesHit n t m s) q)

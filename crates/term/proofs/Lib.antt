@@ -1,7 +1,9 @@
 pub mod PlainRule
 pub mod Hits
+pub mod Product
 pub mod ReadingBack
 pub mod LeastSample
 pub mod SamePattern
 pub mod Stepping
 pub mod Theorems
+pub mod Ways

@@ -1,4 +1,5 @@
--- The plain rule: the upper lines and the lower ones, the formula that 01 gives, and the same by cut numbers. Assumes nothing.
+-- The plain rule: the upper lines and the lower ones, the formula of XOR and AND, and the same by cut numbers. Assumes
+-- nothing.
 use mathlib.Core.Path.{_≡_, refl, ap, _∙_}
 use mathlib.Core.Bool.{Bool, true, _&&_, and-assoc, Bool·beq}
 use mathlib.Core.List.{List, [], _∷_}
@@ -33,7 +34,7 @@ line-masked : (t m s i : ℕ) → eqb (bitAnd (line s i) (line m i)) (bitAnd (li
 line-masked t m s i =
     agree _ _ (every-within (digits 3) (lineTest (λ t m s. eqb (bitAnd s m) (bitAnd t m))) tt (line t i ∷ line m i ∷ line s i ∷ []) (omega arith))
 
--- 01's formula: (sample XOR target) AND mask = 0
+-- the formula: (sample XOR target) AND mask = 0 [P2]
 pub lines-formula : (k t m s : ℕ) → t < 2 ^ k → m < 2 ^ k → s < 2 ^ k → eqb (bitAnd (bitXor s t) m) 0 ≡ linesHit k t m s
 lines-formula k t m s ht hm hs =
     none-set k (bitAnd (bitXor s t) m) (and-lt k (bitXor s t) m (xor-lt k s t hs ht) hm)

@@ -14,12 +14,13 @@ use lib.Count.{trailingZeros}
 use lib.Dec.{T, eqb, eqb→eq, lit<}
 use lib.ListN.{length, getD}
 use lib.Pow.{pow-add, mod-pow-add}
-use Rattle.lines.specs.Same.{same}
-use Rattle.lines.proofs.Compare.{same-refl, same-true}
+use Rattle.buffer.specs.Same.{same}
+use Rattle.buffer.proofs.Compare.{same-refl, same-true}
 use Rattle.lines.proofs.Computed.{nibbles, everyWithin, every-within}
-use Rattle.lut.specs.Table.{tableOf}
+use Rattle.lut.specs.Table.{tableOf, down}
 use Rattle.lut.proofs.Tables.{table-lt}
-use Rattle.term.specs.Words.{nibbleTable, chainWord, wordsDown, termWords}
+use Rattle.lut.proofs.Down.{down-cong}
+use Rattle.term.specs.Words.{nibbleTable, chainWord, wordAt, termWords}
 use Rattle.term.specs.Back.{nibbleTarget, lineMasked, nibbleMask, tablePart, wordPart, linesAfter, partOf, readTerm, Writes, ReadMeans}
 use Rattle.term.specs.declared.ReadTerm.{ReadTerm}
 use Rattle.term.specs.declared.ReadTerm.the-variants.{Pattern, Refused}
@@ -86,8 +87,8 @@ word-part-lt p w = omega (arith, table-part-lt p (w / 65536), table-part-lt p (w
 
 -- ---- the chain
 
-lines-back : (p : Part) (t m k acc : ℕ) → linesAfter p acc (wordsDown k t m) ≡ acc * 2 ^ (8 * k) + decoded p t m % 2 ^ (8 * k)
-unfolding linesAfter wordsDown
+lines-back : (p : Part) (t m k acc : ℕ) → linesAfter p acc (down (wordAt t m) k) ≡ acc * 2 ^ (8 * k) + decoded p t m % 2 ^ (8 * k)
+unfolding linesAfter down
 lines-back p t m zero acc = omega arith
 lines-back p t m (suc k) acc =
     let e : 8 * suc k ≡ 8 + 8 * k = omega arith in
@@ -129,16 +130,11 @@ unfolding termWords
 part-back p t m ht hm =
     part-four p (termWords t m) (term-words-length t m) ∙ lines-back p t m 4 0 ∙ omega (arith, fits-decoded p t m ht hm)
 
-words-cut : (k t m : ℕ) → wordsDown k (bitAnd t m) m ≡ wordsDown k t m
-unfolding wordsDown
-words-cut zero t m = refl
-words-cut (suc k) t m =
-    ap₂ (λ (w : ℕ) (ws : List ℕ). w ∷ ws)
-    (ap (λ (x : ℕ). chainWord x (m / 2 ^ (8 * k))) (and-shr t m (8 * k)) ∙ word-cut (t / 2 ^ (8 * k)) (m / 2 ^ (8 * k))) (words-cut k t m)
-
 pub term-words-cut : (t m : ℕ) → termWords (bitAnd t m) m ≡ termWords t m
 unfolding termWords
-term-words-cut t m = words-cut 4 t m
+term-words-cut t m =
+    down-cong (wordAt (bitAnd t m) m) (wordAt t m)
+    (λ k. ap (λ (x : ℕ). chainWord x (m / 2 ^ (8 * k))) (and-shr t m (8 * k)) ∙ word-cut (t / 2 ^ (8 * k)) (m / 2 ^ (8 * k))) 4
 
 -- ---- reading
 
@@ -170,10 +166,6 @@ read-means ws = go (same ws (termWords (partOf Target ws) (partOf Mask ws))) ref
       where
         refused-by : same ws (termWords (partOf Target ws) (partOf Mask ws)) ≡ false → readTerm ws ≡ Refused
         refused-by e = rw e
-
--- a pattern whose target is cut is what its words are read as
-pub writes-read : (ws : List ℕ) (t m : ℕ) → Writes ws t m → readTerm ws ≡ Pattern t m
-writes-read ws t m w = ap readTerm (w .written) ∙ read-words t m (w .target-fits) (w .mask-fits) ∙ ap (λ (x : ℕ). Pattern x m) (w .cut)
 
 -- the call: what was decoded, what it writes, and whether that is what was read
 module _ (ws again : List ℕ) (t m : ℕ) (b : Bool) (et : t ≡ partOf Target ws) (em : m ≡ partOf Mask ws) (ea : again ≡ termWords t m)

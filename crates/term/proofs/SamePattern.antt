@@ -1,4 +1,4 @@
--- Equal words, the same pattern once cut, and hits alike on every sample are one thing, and `leastTelling` gives the least sample
+-- Equal words, the same pattern once cut, and hits alike on every sample are one thing, and `termTelling` gives the least sample
 -- that tells two other patterns apart. Assumes nothing.
 use mathlib.Core.Path.{_≡_, sym, ap, ap₂, _∙_}
 use mathlib.Core.Bool.{Bool, true, false, not}
@@ -14,40 +14,52 @@ use lib.Dec.{eqb}
 use lib.Pow.{pow-pos}
 use borrow.Author.Tests.{eq-eqb, ne-eqb}
 use Rattle.lines.proofs.Truth.{eqb-iff}
-use Rattle.lut.specs.Telling.{HitAlike, LeastApart, SaysLeast}
+use Rattle.lut.specs.Input.{onSample}
+use Rattle.lut.specs.Telling.{HitAlike, TellsApart, Says, Least}
+use Rattle.lut.specs.declared.Input.the-variants.{Sample}
 use Rattle.lut.specs.declared.Telling.{Telling}
-use Rattle.lut.specs.declared.Telling.the-variants.{Alike, One}
+use Rattle.lut.specs.declared.Telling.the-variants.{Alike, Apart}
 use Rattle.term.specs.Rule.{termHit}
 use Rattle.term.specs.Words.{termWords}
 use Rattle.term.specs.Model.{chainHit}
 use Rattle.term.specs.Back.{readTerm}
 use Rattle.term.specs.declared.ReadTerm.the-variants.{Pattern}
-use Rattle.term.specs.Telling.{leastTelling, lowestLine}
+use Rattle.term.specs.Telling.{termTelling, lowestLine}
 use Rattle.term.proofs.PlainRule.{term-masked}
 use Rattle.term.proofs.LeastSample.{cut-within, lowest, below-alike, lowest-tells, Tells}
 use Rattle.term.proofs.ReadingBack.{read-words, term-words-cut}
 use Rattle.term.proofs.Hits.{term-hits}
+use Rattle.lut.proofs.Asked.{alike-on-samples, alike-iff}
+
+-- a sample tells two patterns apart, and no lesser one does
+pub record LeastApart (f g : ℕ → Bool) (sample : ℕ) : Type 0 where
+  pub apart : TellsApart (onSample f) (onSample g) (Sample sample)
+  pub least : (r : ℕ) → r < sample → f r ≡ g r
+
+-- what the call's answer says
+abbrev pub SaysLeast : (f g : ℕ → Bool) → Telling → Type 0
+SaysLeast f g t = Says (onSample f) (onSample g) t × Least (onSample f) (onSample g) t
 
 -- ---- the three cases of the definition
 
 module _ (t₁ m₁ t₂ m₂ : ℕ) where
-  pub least-same : bitAnd t₁ m₁ ≡ bitAnd t₂ m₂ → m₁ ≡ m₂ → leastTelling t₁ m₁ t₂ m₂ ≡ Alike
-  unfolding leastTelling
+  pub least-same : bitAnd t₁ m₁ ≡ bitAnd t₂ m₂ → m₁ ≡ m₂ → termTelling t₁ m₁ t₂ m₂ ≡ Alike
+  unfolding termTelling
   least-same e f = simp (eq-eqb _ _ e, eq-eqb _ _ f)
 
-  pub least-mask : bitAnd t₁ m₁ ≡ bitAnd t₂ m₂ → (m₁ ≡ m₂ → ⊥) → leastTelling t₁ m₁ t₂ m₂ ≡ One (bitAnd t₁ m₁ + lowestLine (bitXor m₁ m₂))
-  unfolding leastTelling
+  pub least-mask : bitAnd t₁ m₁ ≡ bitAnd t₂ m₂ → (m₁ ≡ m₂ → ⊥) → termTelling t₁ m₁ t₂ m₂ ≡ Apart (Sample (bitAnd t₁ m₁ + lowestLine (bitXor m₁ m₂)))
+  unfolding termTelling
   least-mask e f = simp (eq-eqb _ _ e, ne-eqb _ _ f)
 
-  pub least-target : (bitAnd t₁ m₁ ≡ bitAnd t₂ m₂ → ⊥) → leastTelling t₁ m₁ t₂ m₂ ≡ One (min (bitAnd t₁ m₁) (bitAnd t₂ m₂))
-  unfolding leastTelling
+  pub least-target : (bitAnd t₁ m₁ ≡ bitAnd t₂ m₂ → ⊥) → termTelling t₁ m₁ t₂ m₂ ≡ Apart (Sample (min (bitAnd t₁ m₁) (bitAnd t₂ m₂)))
+  unfolding termTelling
   least-target e = simp (ne-eqb _ _ e)
 
-  pub least-first : bitAnd t₁ m₁ < bitAnd t₂ m₂ → leastTelling t₁ m₁ t₂ m₂ ≡ One (bitAnd t₁ m₁)
-  least-first l = least-target (λ e. omega arith) ∙ ap One (min-eq-left (le-of-lt l))
+  pub least-first : bitAnd t₁ m₁ < bitAnd t₂ m₂ → termTelling t₁ m₁ t₂ m₂ ≡ Apart (Sample (bitAnd t₁ m₁))
+  least-first l = least-target (λ e. omega arith) ∙ ap (λ (s : ℕ). Apart (Sample s)) (min-eq-left (le-of-lt l))
 
-  pub least-second : bitAnd t₂ m₂ < bitAnd t₁ m₁ → leastTelling t₁ m₁ t₂ m₂ ≡ One (bitAnd t₂ m₂)
-  least-second l = least-target (λ e. omega arith) ∙ ap One (min-eq-right (le-of-lt l))
+  pub least-second : bitAnd t₂ m₂ < bitAnd t₁ m₁ → termTelling t₁ m₁ t₂ m₂ ≡ Apart (Sample (bitAnd t₂ m₂))
+  least-second l = least-target (λ e. omega arith) ∙ ap (λ (s : ℕ). Apart (Sample s)) (min-eq-right (le-of-lt l))
 
 -- ---- what each case says
 
@@ -63,8 +75,8 @@ module _ (t₁ m₁ t₂ m₂ : ℕ) (ht₁ : t₁ < 2 ^ 32) (hm₁ : m₁ < 2 ^
   to-cut : (s : ℕ) → s < 2 ^ 32 → termHit t₁ m₁ s ≡ termHit t₂ m₂ s → eqb (bitAnd s m₁) (bitAnd t₁ m₁) ≡ eqb (bitAnd s m₂) (bitAnd t₂ m₂)
   to-cut s h e = term-masked t₁ m₁ s ht₁ hm₁ h ∙ e ∙ sym (term-masked t₂ m₂ s ht₂ hm₂ h)
 
-  says-same : bitAnd t₁ m₁ ≡ bitAnd t₂ m₂ → m₁ ≡ m₂ → HitAlike (termHit t₁ m₁) (termHit t₂ m₂)
-  says-same e f s h = from-cut s h (ap₂ eqb (ap (bitAnd s) f) e)
+  says-same : bitAnd t₁ m₁ ≡ bitAnd t₂ m₂ → m₁ ≡ m₂ → HitAlike (onSample (termHit t₁ m₁)) (onSample (termHit t₂ m₂))
+  says-same e f = alike-on-samples _ _ (λ s h. from-cut s h (ap₂ eqb (ap (bitAnd s) f) e))
 
   -- one hits and the other misses
   told-apart : (s : ℕ) → s < 2 ^ 32 → (b : Bool) → eqb (bitAnd s m₁) (bitAnd t₁ m₁) ≡ b → eqb (bitAnd s m₂) (bitAnd t₂ m₂) ≡ not b → termHit t₁ m₁ s ≡ termHit t₂ m₂ s → ⊥
@@ -121,17 +133,17 @@ module _ (t₁ m₁ t₂ m₂ : ℕ) (ht₁ : t₁ < 2 ^ 32) (hm₁ : m₁ < 2 ^
           let l : bitAnd t₂ m₂ < bitAnd t₁ m₁ = omega arith in
           rw (min-eq-right (le-of-lt l)) (swapped t₁ m₁ t₂ m₂ (bitAnd t₂ m₂) (says-target t₂ m₂ t₁ m₁ ht₂ hm₂ ht₁ hm₁ l))
 
-  pub telling-law : SaysLeast (termHit t₁ m₁) (termHit t₂ m₂) (leastTelling t₁ m₁ t₂ m₂)
+  pub telling-law : SaysLeast (termHit t₁ m₁) (termHit t₂ m₂) (termTelling t₁ m₁ t₂ m₂)
   telling-law = go (ℕ-discrete (bitAnd t₁ m₁) (bitAnd t₂ m₂)) (ℕ-discrete m₁ m₂)
     where
-      go : Dec (bitAnd t₁ m₁ ≡ bitAnd t₂ m₂) → Dec (m₁ ≡ m₂) → SaysLeast (termHit t₁ m₁) (termHit t₂ m₂) (leastTelling t₁ m₁ t₂ m₂)
-      go (yes e) (yes f) = rw (least-same t₁ m₁ t₂ m₂ e f) (says-same t₁ m₁ t₂ m₂ ht₁ hm₁ ht₂ hm₂ e f)
-      go (yes e) (no f) = rw (least-mask t₁ m₁ t₂ m₂ e f) (says-mask t₁ m₁ t₂ m₂ ht₁ hm₁ ht₂ hm₂ e f)
-      go (no e) f = rw (least-target t₁ m₁ t₂ m₂ e) (says-lesser e)
+      go : Dec (bitAnd t₁ m₁ ≡ bitAnd t₂ m₂) → Dec (m₁ ≡ m₂) → SaysLeast (termHit t₁ m₁) (termHit t₂ m₂) (termTelling t₁ m₁ t₂ m₂)
+      go (yes e) (yes f) = rw (least-same t₁ m₁ t₂ m₂ e f) (says-same t₁ m₁ t₂ m₂ ht₁ hm₁ ht₂ hm₂ e f, tt)
+      go (yes e) (no f) = rw (least-mask t₁ m₁ t₂ m₂ e f) (let l = says-mask t₁ m₁ t₂ m₂ ht₁ hm₁ ht₂ hm₂ e f in (l .apart, l .least))
+      go (no e) f = rw (least-target t₁ m₁ t₂ m₂ e) (let l = says-lesser e in (l .apart, l .least))
 
   -- both promises of the call follow from its first
-  pub answer-says : (r : Telling) → r ≡ leastTelling t₁ m₁ t₂ m₂
-      → (r ≡ leastTelling t₁ m₁ t₂ m₂) × SaysLeast (termHit t₁ m₁) (termHit t₂ m₂) r
+  pub answer-says : (r : Telling) → r ≡ termTelling t₁ m₁ t₂ m₂
+      → (r ≡ termTelling t₁ m₁ t₂ m₂) × SaysLeast (termHit t₁ m₁) (termHit t₂ m₂) r
   answer-says r e = (e, rw e telling-law)
 
   -- ---- equal words, equal masks and cut targets, hits alike on every sample
@@ -147,20 +159,16 @@ module _ (t₁ m₁ t₂ m₂ : ℕ) (ht₁ : t₁ < 2 ^ 32) (hm₁ : m₁ < 2 ^
   pub words-alike : termWords t₁ m₁ ≡ termWords t₂ m₂ → (s : ℕ) → termHit t₁ m₁ s ≡ termHit t₂ m₂ s
   words-alike e s = sym (term-hits t₁ m₁ s) ∙ ap (λ (ws : List ℕ). chainHit ws s) e ∙ term-hits t₂ m₂ s
 
-  pub alike-same : (HitAlike (termHit t₁ m₁) (termHit t₂ m₂)) → (m₁ ≡ m₂) × (bitAnd t₁ m₁ ≡ bitAnd t₂ m₂)
+  pub alike-same : HitAlike (onSample (termHit t₁ m₁)) (onSample (termHit t₂ m₂)) → (m₁ ≡ m₂) × (bitAnd t₁ m₁ ≡ bitAnd t₂ m₂)
   alike-same h = go (ℕ-discrete (bitAnd t₁ m₁) (bitAnd t₂ m₂)) (ℕ-discrete m₁ m₂)
     where
       told : (s : ℕ) → LeastApart (termHit t₁ m₁) (termHit t₂ m₂) s → ⊥
-      told s l = l .apart .tells (h s (l .apart .fits))
+      told s l = l .apart .tells (h (Sample s) (l .apart .fits))
 
       go : Dec (bitAnd t₁ m₁ ≡ bitAnd t₂ m₂) → Dec (m₁ ≡ m₂) → (m₁ ≡ m₂) × (bitAnd t₁ m₁ ≡ bitAnd t₂ m₂)
       go (yes e) (yes f) = (f, e)
       go (yes e) (no f) = absurd (told _ (says-mask t₁ m₁ t₂ m₂ ht₁ hm₁ ht₂ hm₂ e f))
       go (no e) f = absurd (told _ (says-lesser e))
 
-  pub alike-words : (HitAlike (termHit t₁ m₁) (termHit t₂ m₂)) → termWords t₁ m₁ ≡ termWords t₂ m₂
+  pub alike-words : HitAlike (onSample (termHit t₁ m₁)) (onSample (termHit t₂ m₂)) → termWords t₁ m₁ ≡ termWords t₂ m₂
   alike-words h = let p = alike-same h in same-words (p .0) (p .1)
-
-  -- `Same` is the answer exactly where they hit alike on every sample
-  pub alike-least : (HitAlike (termHit t₁ m₁) (termHit t₂ m₂)) → leastTelling t₁ m₁ t₂ m₂ ≡ Alike
-  alike-least h = let p = alike-same h in least-same t₁ m₁ t₂ m₂ (p .1) (p .0)

@@ -1,6 +1,6 @@
 -- The loops, one word or one line at a time: what is left decides. Assumes nothing.
-use mathlib.Core.Path.{_≡_, ap, _∙_}
-use mathlib.Core.Bool.{Bool, true, _&&_}
+use mathlib.Core.Path.{_≡_, sym, ap, _∙_}
+use mathlib.Core.Bool.{Bool, true, false, _&&_}
 use mathlib.Core.List.{List}
 use Prim.Native.Nat.{ℕ, suc, _+_, _-_, _*_, _/_, _%_, _^_, _<_, _≤_}
 use native.Mathlib.Nat.{lt-of-lt-of-le, lt-of-not-le}
@@ -21,7 +21,7 @@ use Rattle.term.proofs.ReadingBack.{word-part-lt}
 
 -- ---- the model: the word at i of four has the lines from 24 - 8 i up
 
-pub chain-step : (ws : List ℕ) (s i : ℕ) → length ws ≡ 4 → i < 4
+chain-step : (ws : List ℕ) (s i : ℕ) → length ws ≡ 4 → i < 4
     → chainHit (drop i ws) s ≡ wordHit (getD ws i 0) (s / 2 ^ (24 - 8 * i)) && chainHit (drop (i + 1) ws) s
 unfolding chainHit
 chain-step ws s i e h =
@@ -30,10 +30,20 @@ chain-step ws s i e h =
     (ap (λ (l : List ℕ). chainHit l s) (drop-cons ws i 0 (omega arith))
     ∙ ap (λ (n : ℕ). wordHit (getD ws i 0) (s / 2 ^ n) && chainHit (drop (suc i) ws) s) after)
 
+-- what the words before i say, and what is left says
+abbrev pub Asked : (ws : List ℕ) (s i : ℕ) (hit : Bool) → Type 0
+Asked ws s i hit = chainHit ws s ≡ hit && chainHit (drop i ws) s
+
+pub ask-next : (ws : List ℕ) (s i : ℕ) (hit here : Bool) → length ws ≡ 4 → i < 4 → Asked ws s i hit
+    → here ≡ wordHit (getD ws i 0) (s / 2 ^ (24 - 8 * i)) → Asked ws s (i + 1) (hit && here)
+ask-next ws s i true here e h asked at = asked ∙ chain-step ws s i e h ∙ ap (λ (b : Bool). b && chainHit (drop (i + 1) ws) s) (sym at)
+ask-next ws s i false here e h asked at = asked
+
 -- past the last word nothing is left to ask
-pub chain-end : (ws : List ℕ) (s i : ℕ) → length ws ≡ 4 → 4 ≤ i → chainHit (drop i ws) s ≡ true
+pub ask-end : (ws : List ℕ) (s i : ℕ) (hit : Bool) → length ws ≡ 4 → 4 ≤ i → Asked ws s i hit → chainHit ws s ≡ hit
 unfolding chainHit
-chain-end ws s i e h = ap (λ (l : List ℕ). chainHit l s) (drop-of-length-le ws {i = i} (omega arith))
+ask-end ws s i true e h asked = asked ∙ ap (λ (l : List ℕ). chainHit l s) (drop-of-length-le ws {i = i} (omega arith))
+ask-end ws s i false e h asked = asked
 
 -- ---- reading: `lines` has what the first i words have of a part
 

@@ -1,79 +1,95 @@
--- What the buyer's demands say of patterns. Targets, masks and samples are numbers below 2 ^ 32. Assumes nothing.
-use mathlib.Core.Path.{_≡_, refl, sym, ap, _∙_, subst}
+-- What is promised of patterns. Assumes nothing.
+use mathlib.Core.Path.{_≡_, refl, sym, ap, _∙_, ap₂}
 use mathlib.Core.Bool.{true}
-use mathlib.Core.List.{List}
+use mathlib.Core.List.{List, [], _∷_}
 use mathlib.Core.Logic.{_↔_}
 use Prim.Native.Nat.{ℕ, _^_, _<_}
 use native.Mathlib.Nat.{zero-div}
 use native.Mathlib.Omega.{arith}
+use lib.Dec.{lit<}
+use lib.ListN.{length}
 use lib.Bits.{bitAnd}
 use Rattle.lines.specs.Line.{line}
 use Rattle.lines.proofs.Over.{every-all}
+use Rattle.buffer.specs.Bytes.{Bytes}
+use Rattle.buffer.specs.Fields.{fieldBytes}
+use Rattle.buffer.proofs.FieldLaws.{fields-read, fields-written, fit₂}
+use Rattle.term.specs.Description.{size, fromBytes, toBytes}
 use Rattle.lut.specs.Answer.{hitOrMiss}
-use Rattle.lut.specs.Telling.{HitAlike, SaysLeast}
+use Rattle.lut.specs.Telling.{HitAlike, Says, Least}
+use Rattle.lut.specs.declared.Input.the-variants.{Sample}
 use Rattle.lut.specs.declared.Telling.the-variants.{Alike}
+use Rattle.lut.proofs.Asked.{alike-on-samples, alike-iff}
 use Rattle.lut.proofs.Runs.{run-needed}
-use Rattle.term.specs.Rule.{lineHit, termHit}
-use Rattle.term.specs.Words.{termWords}
+use Rattle.term.specs.Rule.{lineHit, termHit, hit, Accepted}
+use Rattle.term.specs.Words.{termWords, wordsOf}
 use Rattle.term.specs.Model.{chainHit, runTerm}
 use Rattle.term.specs.Back.{readTerm, ReadMeans}
-use Rattle.term.specs.Telling.{leastTelling}
+use Rattle.term.specs.Telling.{termTelling}
+use Rattle.term.specs.declared.Pattern.{Pattern}
 use Rattle.term.specs.declared.ReadTerm.{ReadTerm}
-use Rattle.term.specs.declared.ReadTerm.the-variants.{Pattern, Refused}
+use Rattle.term.specs.declared.ReadTerm.the-variants as ReadTerm
 use Rattle.term.proofs.Hits.{term-words-length, term-hits}
 use Rattle.term.proofs.ReadingBack.{read-words, read-means}
-use Rattle.term.proofs.SamePattern.{words-alike, alike-words, telling-law, alike-least}
+use Rattle.term.proofs.SamePattern.{words-alike, alike-words, telling-law}
 
--- demand 2: "For every sample .. those words run in the table and carry model hit exactly when the plain rule .. says so"
-pub model-hits : (target mask sample : ℕ) → runTerm (termWords target mask) sample ≡ hitOrMiss (termHit target mask sample)
-model-hits t m s =
-    run-needed 4 (termWords t m) (chainHit (termWords t m) s) (termHit t m s) (term-words-length t m) (term-hits t m s)
+-- over a pattern's words the model hits exactly when the plain rule does [D2.2]
+pub run-hits : (p : Pattern) (sample : ℕ) → runTerm (wordsOf p) sample ≡ hitOrMiss (hit p (Sample sample))
+run-hits p s =
+    run-needed 4 (wordsOf p) (chainHit (wordsOf p) s) (termHit (p .target) (p .mask) s) (term-words-length (p .target) (p .mask))
+    (term-hits (p .target) (p .mask) s)
 
--- 01: "Mask 0 hits always"
+-- with mask 0 every sample is hit [P1]
 pub mask-zero-hits : (target sample : ℕ) → termHit target 0 sample ≡ true
 unfolding termHit
 mask-zero-hits t s =
     every-all 32 (λ i. lineHit (line t i) (line 0 i) (line s i)) (λ i h. rw (zero-div (2 ^ i)))
 
--- demand 2: "Reading the commands back gives the sheet without .. ignored target bits"
-pub words-read-back : (target mask : ℕ) → target < 2 ^ 32 → mask < 2 ^ 32 → readTerm (termWords target mask) ≡ Pattern (bitAnd target mask) mask
-words-read-back = read-words
+-- a pattern's words are read as the pattern, its target cut to its mask [C5, C7, D2.5]
+pub words-read-back : (p : Pattern) → Accepted p → readTerm (wordsOf p) ≡ ReadTerm.Pattern (bitAnd (p .target) (p .mask)) (p .mask)
+words-read-back p a = read-words (p .target) (p .mask) (a .target-fits) (a .mask-fits)
 
--- some pattern writes these words
-pub record Written (words : List ℕ) : Type 0 where
-  pub target : ℕ
-  pub mask : ℕ
-  pub target-fits : target < 2 ^ 32
-  pub mask-fits : mask < 2 ^ 32
-  pub written : words ≡ termWords target mask
-
--- demand 2, for the words of one term: they are accepted exactly if some pattern writes them
-pub accepted-iff-written : (words : List ℕ) → (readTerm words ≡ Refused → ⊥) ↔ Written words
+-- words are refused unless an accepted pattern writes them [C5, F16, D2.6]
+pub accepted-iff-written : (words : List ℕ) → (readTerm words ≡ ReadTerm.Refused → ⊥) ↔ ((p : Pattern) × (Accepted p × (words ≡ wordsOf p)))
 accepted-iff-written ws = (λ n. go (readTerm ws) refl n (read-means ws), back)
   where
-    go : (r : ReadTerm) → readTerm ws ≡ r → (r ≡ Refused → ⊥) → ReadMeans ws r → Written ws
-    go (Pattern t m) e n w =
-        record { target = t; mask = m; target-fits = w .target-fits; mask-fits = w .mask-fits; written = w .written }
-    go Refused e n w = absurd (n refl)
+    go : (r : ReadTerm) → readTerm ws ≡ r → (r ≡ ReadTerm.Refused → ⊥) → ReadMeans ws r → (p : Pattern) × (Accepted p × (ws ≡ wordsOf p))
+    go (ReadTerm.Pattern t m) e n w =
+        (record { target = t; mask = m }, (record { target-fits = w .target-fits; mask-fits = w .mask-fits }, w .written))
+    go ReadTerm.Refused e n w = absurd (n refl)
 
-    back : Written ws → readTerm ws ≡ Refused → ⊥
-    back w e =
-        let r : Pattern (bitAnd (w .target) (w .mask)) (w .mask) ≡ Refused =
-        sym (ap readTerm (w .written) ∙ read-words (w .target) (w .mask) (w .target-fits) (w .mask-fits)) ∙ e in
+    back : ((p : Pattern) × (Accepted p × (ws ≡ wordsOf p))) → readTerm ws ≡ ReadTerm.Refused → ⊥
+    back (p, (a, w)) e =
+        let r : ReadTerm.Pattern (bitAnd (p .target) (p .mask)) (p .mask) ≡ ReadTerm.Refused = sym (ap readTerm w ∙ words-read-back p a) ∙ e in
         let z : _≡_ {A = ℕ} 0 1 = cc in
         omega arith
 
-module _ (t₁ m₁ t₂ m₂ : ℕ) (ht₁ : t₁ < 2 ^ 32) (hm₁ : m₁ < 2 ^ 32) (ht₂ : t₂ < 2 ^ 32) (hm₂ : m₂ < 2 ^ 32) where
-  -- demand 3: "Two patterns .. have equal chain words exactly when they hit alike on every input"
-  pub equal-words-iff-alike : (termWords t₁ m₁ ≡ termWords t₂ m₂) ↔ HitAlike (termHit t₁ m₁) (termHit t₂ m₂)
-  equal-words-iff-alike =
-      (λ e s h. words-alike t₁ m₁ t₂ m₂ ht₁ hm₁ ht₂ hm₂ e s, alike-words t₁ m₁ t₂ m₂ ht₁ hm₁ ht₂ hm₂)
+module _ (a b : Pattern) (p : Accepted a) (q : Accepted b) where
+  -- two patterns have the same chain words exactly when no sample tells them apart [D3.1]
+  pub equal-words-iff-alike : (wordsOf a ≡ wordsOf b) ↔ HitAlike (hit a) (hit b)
+  equal-words-iff-alike = (
+    λ e. alike-on-samples _ _ (λ s h. words-alike _ _ _ _ (p .target-fits) (p .mask-fits) (q .target-fits) (q .mask-fits) e s),
+    alike-words _ _ _ _ (p .target-fits) (p .mask-fits) (q .target-fits) (q .mask-fits),
+  )
 
-  -- demand 3: "that line shows one that does, for a pattern the least"
-  pub telling-says : SaysLeast (termHit t₁ m₁) (termHit t₂ m₂) (leastTelling t₁ m₁ t₂ m₂)
-  telling-says = telling-law t₁ m₁ t₂ m₂ ht₁ hm₁ ht₂ hm₂
+  -- the sample that is shown tells the two apart; none is shown where none does [D3.6, N6]
+  pub telling-says : Says (hit a) (hit b) (termTelling (a .target) (a .mask) (b .target) (b .mask))
+  telling-says = telling-law _ _ _ _ (p .target-fits) (p .mask-fits) (q .target-fits) (q .mask-fits) .0
 
-  -- and Alike is said exactly where no input tells the two apart
-  pub alike-iff-hit-alike : (leastTelling t₁ m₁ t₂ m₂ ≡ Alike) ↔ HitAlike (termHit t₁ m₁) (termHit t₂ m₂)
-  alike-iff-hit-alike =
-      (λ e. subst (SaysLeast (termHit t₁ m₁) (termHit t₂ m₂)) e telling-says, alike-least t₁ m₁ t₂ m₂ ht₁ hm₁ ht₂ hm₂)
+  -- and no lesser sample does [D3.7, N9]
+  pub telling-least : Least (hit a) (hit b) (termTelling (a .target) (a .mask) (b .target) (b .mask))
+  telling-least = telling-law _ _ _ _ (p .target-fits) (p .mask-fits) (q .target-fits) (q .mask-fits) .1
+
+-- from bytes and to bytes are inverse
+pub bytes-inverse : (d : List ℕ) → Bytes d → length d ≡ size → toBytes (fromBytes d) ≡ d
+unfolding fieldBytes
+bytes-inverse d h l = fields-written 2 0 d h l
+
+made : (target mask : ℕ) → Pattern
+made target mask = record { target = target; mask = mask }
+
+pub description-inverse : (p : Pattern) → Accepted p → fromBytes (toBytes p) ≡ p
+unfolding made
+description-inverse p a =
+    let read = fields-read (p .target ∷ p .mask ∷ []) (fit₂ (p .target) (p .mask) (a .target-fits) (a .mask-fits)) in
+    ap₂ made (read 0 (lit< tt)) (read 1 (lit< tt))

@@ -1,28 +1,32 @@
--- The chain words of a pattern (01, "Chain words", terms).
+-- The chain words of a pattern.
 use mathlib.Core.Bool.{Bool}
-use mathlib.Core.List.{List, [], _∷_}
-use Prim.Native.Nat.{ℕ, zero, suc, _*_, _/_, _%_, _^_}
+use mathlib.Core.List.{List}
+use Prim.Native.Nat.{ℕ, _*_, _/_, _%_, _^_}
 use lib.Bits.{bitAnd, bitXor}
 use lib.Dec.{eqb}
-use Rattle.lut.specs.Table.{tableOf, wordOf}
+use Rattle.lut.specs.Table.{tableOf, wordOf, down}
+use Rattle.term.specs.declared.Pattern.{Pattern}
 
--- "(address XOR target) AND mask = 0" (01, "Plain rules of a hit")
+-- the address agrees with the target on the masked lines, as one formula [W5, P2]
 abbrev pub addressHit : (target mask address : ℕ) → Bool
 addressHit t m address = eqb (bitAnd (bitXor address t) m) 0
 
--- the table of four lines, for a target and a mask below 16; "a table's lowest line is address bit 0"
+-- a pattern's table for four lines: bit n tells whether address n agrees on the masked lines [W4, W5]
 unfoldable pub nibbleTable : (target mask : ℕ) → ℕ
 nibbleTable t m = tableOf (addressHit t m) 16
 
--- "lines 0 to 3 in its low half and 4 to 7 in its high half"
+-- the word of the lowest eight lines, the lower four in its lower half [W4]
 unfoldable pub chainWord : (target mask : ℕ) → ℕ
 chainWord t m = wordOf (nibbleTable (t / 16 % 16) (m / 16 % 16)) (nibbleTable (t % 16) (m % 16))
 
--- the words of the lowest 8 k lines, the highest lines first
-unfoldable pub wordsDown : (k target mask : ℕ) → List ℕ
-wordsDown zero t m = []
-wordsDown (suc k) t m = chainWord (t / 2 ^ (8 * k)) (m / 2 ^ (8 * k)) ∷ wordsDown k t m
+-- the word of the lines 8 k + 7 to 8 k [W4]
+abbrev pub wordAt : (target mask k : ℕ) → ℕ
+wordAt t m k = chainWord (t / 2 ^ (8 * k)) (m / 2 ^ (8 * k))
 
--- "four words", in sending order
+-- a pattern's four words, first sent first [W4, G4]
 unfoldable pub termWords : (target mask : ℕ) → List ℕ
-termWords t m = wordsDown 4 t m
+termWords t m = down (wordAt t m) 4
+
+-- the same of a pattern as one value [W4, G4]
+abbrev pub wordsOf : Pattern → List ℕ
+wordsOf p = termWords (p .target) (p .mask)

@@ -2,16 +2,26 @@
 // Promises: each call equals its definition in specs/ for any input, and no input traps; reading back and telling apart also say what they mean.
 // Rests on: lines (digits and lines), lut (tables, answers).
 mod back;
+mod description;
 mod model;
 mod rule;
 mod telling;
 mod words;
 
 pub use back::read_term;
+pub use description::put_back;
+pub use description::put_words;
+pub use description::telling_of;
 pub use model::run_term;
 pub use rule::term_hit;
-pub use telling::least_telling;
+pub use telling::term_telling;
 pub use words::term_words;
+
+// A description, which asks for the target on all masked lines.
+pub struct Pattern {
+    pub target: u32,
+    pub mask: u32,
+}
 
 // What chain words are read as.
 pub enum ReadTerm {

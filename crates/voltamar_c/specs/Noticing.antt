@@ -5,6 +5,6 @@ use Rattle.sheet.specs.Reading.{verdict}
 use Rattle.notice.specs.declared.Noticed.{Noticed}
 use Rattle.notice.specs.Notice.{noticeText, answerOf}
 
--- 01, 'Refusal numbers': 'the old one speaks first', then the new one, then 12
+-- the old sheet's refusal, then the new sheet's, then 12 [O4, A4]
 abbrev pub noticed : (old new : List ℕ) (room : ℕ) → Noticed
 noticed old new room = answerOf (verdict old) (verdict new) (noticeText old new) room

@@ -5,15 +5,26 @@ use crate::{refused, Refusal};
 
 /// The sample's masked lines, the lowest line at bit 0.
 pub fn gather(sample: u32, mask: u32) -> u32 {
-    let mut number = 0;
-    let mut rank = 0;
-    for line in 0..32 {
-        if mask >> line & 1 == 1 {
-            number |= (sample >> line & 1) << rank;
-            rank += 1;
-        }
+    let (mut number, mut rank, mut left) = (0, 0, mask);
+    while left != 0 {
+        number |= (sample >> left.trailing_zeros() & 1) << rank;
+        rank += 1;
+        left &= left - 1; // without its lowest line
     }
     number
+}
+
+/// The way back: the number's bits on the masked lines, bit 0 on the lowest. Of two numbers the greater one gives the
+/// greater sample.
+pub(crate) fn scatter(number: u32, mask: u32) -> u32 {
+    let (mut sample, mut left, mut lines) = (0, number, mask);
+    while lines != 0 {
+        let lowest = lines & lines.wrapping_neg();
+        sample |= lowest * (left & 1);
+        left >>= 1;
+        lines &= lines - 1;
+    }
+    sample
 }
 
 pub fn term_hit(target: u32, mask: u32, sample: u32) -> bool {
@@ -37,10 +48,9 @@ const LINE: [u32; 4] = [0xAAAA, 0xCCCC, 0xF0F0, 0xFF00];
 /// A term's table for four lines: bit n answers whether address n has the target's value on the masked lines.
 fn term_table(target: u32, mask: u32) -> u32 {
     let mut table = 0xFFFF;
-    for line in 0..4 {
-        if mask >> line & 1 == 1 {
-            table &= if target >> line & 1 == 1 { LINE[line] } else { !LINE[line] };
-        }
+    for (line, ones) in LINE.into_iter().enumerate() {
+        let differs = ones ^ (target >> line & 1) * 0xFFFF;
+        table &= !(differs * (mask >> line & 1));
     }
     table
 }
@@ -49,31 +59,20 @@ pub fn term_words(target: u32, mask: u32) -> [u32; 4] {
     let mut words = [0; 4];
     for table in 0..8 {
         let low = 4 * table;
-        // the last word has lines 0 to 3 in its low half
+        // lines 3 down to 0 end in the low half of the last word
         words[3 - table / 2] |= term_table(target >> low, mask >> low) << (table % 2 * 16);
     }
     words
 }
 
-/// One chain of a range: the masked lines take the value's bits, the lowest line bit 0.
+/// One chain of a range: the masked lines take the value's bits, the lowest line bit 0. A table is 0xFFFF without a
+/// bit, 0xAAAA for a clear one, 0x5555 for a set one.
 fn chain(value: u32, mask: u32) -> [u32; 16] {
-    let mut words = [0; 16];
-    let mut rank = 0;
-    for line in 0..32 {
-        let table = if mask >> line & 1 == 0 {
-            0xFFFF
-        } else {
-            rank += 1;
-            if value >> (rank - 1) & 1 == 1 {
-                0x5555
-            } else {
-                0xAAAA
-            }
-        };
-        // the first word has line 31 in its high half
-        words[15 - line / 2] |= table << (line % 2 * 16);
-    }
-    words
+    let set = scatter(value, mask);
+    let clear = mask & !set;
+    let table = |line: usize| 0xFFFF - 0xAAAA * (set >> line & 1) - 0x5555 * (clear >> line & 1);
+    // line 31 is the top one of the first word
+    std::array::from_fn(|word| table(31 - 2 * word) << 16 | table(30 - 2 * word))
 }
 
 /// Lower chain, then upper chain.
@@ -91,16 +90,8 @@ const NEITHER: [u32; 2] = [0xA5A5, 0xCC33];
 pub fn edge_words(rise: u32, fall: u32, neither: u32) -> [u32; 8] {
     let mut words = [0; 8];
     for line in 0..32 {
-        let mut table = 0;
-        if rise >> line & 1 == 1 {
-            table |= RISE[line % 2];
-        }
-        if fall >> line & 1 == 1 {
-            table |= FALL[line % 2];
-        }
-        if neither >> line & 1 == 1 {
-            table |= NEITHER[line % 2];
-        }
+        let asked = |lines: u32, event: [u32; 2]| (lines >> line & 1) * event[line % 2];
+        let table = asked(rise, RISE) | asked(fall, FALL) | asked(neither, NEITHER);
         // two lines to a table, four to a word, the first word has lines 31 and 30 in its high half
         words[7 - line / 4] |= table << (line % 4 / 2 * 16);
     }
@@ -143,18 +134,24 @@ fn half(word: u32, which: usize) -> u32 {
 
 pub fn run_term(words: &[u32], sample: u32) -> Result<bool, Refusal> {
     let words = counted::<4>(words)?;
-    Ok((0..8).all(|table| half(words[3 - table / 2], table % 2) >> (sample >> (4 * table) & 15) & 1 == 1))
+    let mut all = 1; // no early exit: a look is cheaper than a branch that is guessed wrong
+    for table in 0..8 {
+        all &= half(words[3 - table / 2], table % 2) >> (sample >> (4 * table) & 15);
+    }
+    Ok(all & 1 == 1)
 }
 
+/// The carry that leaves line 31: the value of the highest line whose table answers 0, for a table that answers 1 passes
+/// the carry on. The words go from line 31 down, two lines to a word.
 fn carry(words: &[u32], sample: u32) -> u32 {
-    let mut carry = 0;
-    for line in 0..32 {
-        let value = sample >> line & 1;
-        if half(words[15 - line / 2], line % 2) >> value & 1 == 0 {
-            carry = value;
+    for (i, word) in words.iter().enumerate() {
+        let (odd, even) = (sample >> (31 - 2 * i) & 1, sample >> (30 - 2 * i) & 1);
+        let (pass_odd, pass_even) = (half(*word, 1) >> odd & 1, half(*word, 0) >> even & 1);
+        if pass_odd & pass_even == 0 {
+            return if pass_odd == 0 { odd } else { even };
         }
     }
-    carry
+    0
 }
 
 pub fn run_range(words: &[u32], sample: u32) -> Result<bool, Refusal> {
@@ -164,10 +161,12 @@ pub fn run_range(words: &[u32], sample: u32) -> Result<bool, Refusal> {
 
 pub fn run_edge(words: &[u32], earlier: u32, later: u32) -> Result<bool, Refusal> {
     let words = counted::<8>(words)?;
-    Ok((0..16).any(|table| {
-        let lines = 2 * table; // the lower of the table's two lines
-        let address = 4 * (earlier >> lines & 3) + (later >> lines & 3);
-        half(words[7 - table / 2], table % 2) >> address & 1 == 1
+    // two tables to a word: lines are the four of a word, the first word's the highest
+    Ok(words.iter().enumerate().any(|(i, &word)| {
+        let (earlier, later) = (earlier >> (28 - 4 * i), later >> (28 - 4 * i));
+        let high = half(word, 1) >> (earlier & 12 | later >> 2 & 3);
+        let low = half(word, 0) >> (earlier << 2 & 12 | later & 3);
+        (high | low) & 1 == 1
     }))
 }
 
@@ -179,7 +178,7 @@ pub fn run_sum(words: &[u32], sources: u16) -> Result<bool, Refusal> {
     let source = |n: u32| u32::from(sources) >> n & 1;
     let mut mids = [0; 2]; // the inputs of mid1 and of mid2
     for (pair, (a, b)) in SOURCES.into_iter().enumerate() {
-        let address = 3 * source(a) + 12 * source(b);
+        let address = 3 * (source(a) | source(b) << 2);
         let answer = half(words[5 - pair / 2], pair % 2) >> address & 1;
         mids[pair / 4] |= answer << (pair % 4);
     }

@@ -110,28 +110,28 @@ fn hex(bytes: &[u8]) -> String {
     bytes.iter().map(|byte| format!("{byte:02X}")).collect::<Vec<_>>().join(" ")
 }
 
-/// A sheet byte by byte: offset, bytes, what they are.
+/// A sheet one record to a line, as `voltamar show` has it: offset, then a count, or slot, label and description in hex.
 fn sheet_text(setup: &Setup) -> String {
     const NAME: [&str; 4] = ["terms", "ranges", "edges", "sums"];
     const FIELDS: [&[&str]; 4] = [&["target", "mask"], &["lower", "upper", "mask"], &["rise", "fall", "neither"], &[]];
+    const STAGES: [&str; 11] = ["ab", "c", "d", "e", "fg", "h", "i", "j", "mid1", "mid2", "final"];
     let mut text = String::new();
     let mut at = 0;
-    let mut line = |bytes: &[u8], what: &str| {
-        let _ = writeln!(text, "{at:>4}  {:<32}  {what}", hex(bytes));
-        at += bytes.len();
-    };
     for (section, records) in setup.sections.iter().enumerate() {
-        line(&[records.len() as u8], &format!("{}: {}", NAME[section], records.len()));
+        let _ = writeln!(text, "{at:>4}  {}: {}", NAME[section], records.len());
+        at += 1;
         for record in records {
-            line(&record[..1], &format!("slot {}", record[0]));
-            line(&record[1..9], &format!("label {:?}", String::from_utf8_lossy(&record[1..9])));
+            let _ = write!(text, "{at:>4}  slot {} \"{}\"", record[0], String::from_utf8_lossy(&record[1..9]));
             for (field, bytes) in FIELDS[section].iter().zip(record[9..].chunks(4)) {
-                line(bytes, &format!("{field} {:X} hex", u32::from_le_bytes(bytes.try_into().expect("four bytes"))));
+                let _ = write!(text, " {field} {:08X}", u32::from_le_bytes(bytes.try_into().expect("four bytes")));
             }
             if section == 3 {
-                let names: Vec<_> = record[9..].iter().map(|&code| OPERATIONS[code as usize]).collect();
-                line(&record[9..], &format!("ab c d e fg h i j mid1 mid2 final: {}", names.join(" ")));
+                for (stage, &code) in STAGES.iter().zip(&record[9..]) {
+                    let _ = write!(text, " {stage} {}", OPERATIONS[code as usize]);
+                }
             }
+            text.push('\n');
+            at += record.len();
         }
     }
     text

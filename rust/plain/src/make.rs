@@ -79,8 +79,8 @@ impl Setup {
     /// An accepted sheet; each slot is taken `taken` times in eight.
     pub fn random(random: &mut Random, taken: usize) -> Setup {
         let mut setup = Setup::default();
-        for section in 0..4 {
-            for slot in 0..MOST[section] {
+        for (section, &most) in MOST.iter().enumerate() {
+            for slot in 0..most {
                 if random.below(8) < taken {
                     let record = record(random, section, slot);
                     setup.sections[section].push(record);
@@ -103,7 +103,7 @@ impl Setup {
     /// Another accepted sheet, not far from this one.
     pub fn near(&self, random: &mut Random) -> Setup {
         let mut setup = self.clone();
-        for section in 0..4 {
+        for (section, &most) in MOST.iter().enumerate() {
             let records = &mut setup.sections[section];
             for record in records.iter_mut() {
                 match random.below(8) {
@@ -121,7 +121,7 @@ impl Setup {
                 }
             }
             records.retain(|_| !random.one_in(12));
-            for slot in 0..MOST[section] {
+            for slot in 0..most {
                 let at = records.partition_point(|record| record[0] < slot);
                 let free = records.get(at).is_none_or(|record| record[0] != slot);
                 if free && random.one_in(16) {

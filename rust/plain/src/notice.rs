@@ -1,6 +1,7 @@
 //! The alteration notice: one that the rules allow, and the test of any other.
-use crate::sheet::{parts, three, two, DESCRIPTION, MOST, SIZE};
-use crate::{edge_hit, range_hit, Refusal, LONGEST_NOTICE};
+use crate::detect::scatter;
+use crate::sheet::{parts, three, two, DESCRIPTION, SIZE};
+use crate::{edge_hit, range_hit, term_hit, Refusal, LONGEST_NOTICE};
 
 /// A refused notice: the sheet that the refusal is of, or the bytes needed (12 is of neither).
 #[derive(Clone, Copy, Debug, PartialEq, Eq)]
@@ -12,71 +13,92 @@ pub enum NoticeRefusal {
 
 // ---- what tells two apart ----
 
-/// The least sample on which exactly one of two walks ends alive. A walk looks at a sample's lines from 31 down and
-/// keeps a state below 5, where 0 is a sure miss; it starts with 1. All reachable pairs of states are tried, line by
-/// line, the line's value 0 first; a pair that failed once is not tried again.
-fn least_telling(old: impl Fn(u32, u32, u8) -> u8, new: impl Fn(u32, u32, u8) -> u8) -> Option<u32> {
-    struct Search<A, B> {
-        old: A,
-        new: B,
-        failed: [u32; 33], // after a line is looked at: one bit for each pair of states
-    }
-    impl<A: Fn(u32, u32, u8) -> u8, B: Fn(u32, u32, u8) -> u8> Search<A, B> {
-        /// The lines from `lines - 1` down are still to come.
-        fn from(&mut self, lines: u32, old: u8, new: u8) -> Option<u32> {
-            if lines == 0 {
-                return ((old != 0) != (new != 0)).then_some(0);
-            }
-            let pair = 1 << (5 * old + new);
-            if old == 0 && new == 0 || self.failed[lines as usize] & pair != 0 {
-                return None;
-            }
-            let line = lines - 1;
-            for value in 0..2 {
-                let (next_old, next_new) = ((self.old)(line, value, old), (self.new)(line, value, new));
-                if let Some(rest) = self.from(line, next_old, next_new) {
-                    return Some(value << line | rest);
-                }
-            }
-            self.failed[lines as usize] |= pair;
-            None
-        }
-    }
-    Search { old, new, failed: [0; 33] }.from(32, 1, 1)
-}
-
-/// A term's walk: alive while each masked line has the target's value.
-fn term_walk((target, mask): (u32, u32)) -> impl Fn(u32, u32, u8) -> u8 {
-    move |line, value, state| if mask >> line & 1 == 1 && target >> line & 1 != value { 0 } else { state }
-}
-
-/// A range's walk compares the number's digits, the highest first, with those of both bounds: 1 equal to both so far,
-/// one more when above the lower bound, two more when below the upper bound.
-fn range_walk((lower, upper, mask): (u32, u32, u32)) -> impl Fn(u32, u32, u8) -> u8 {
-    move |line, value, state| {
-        if mask >> line & 1 == 0 || state == 0 {
-            return state;
-        }
-        let rank = (mask & ((1 << line) - 1)).count_ones();
-        let (mut above, mut below) = ((state - 1) & 1, (state - 1) >> 1);
-        let (low, high) = (lower >> rank & 1, upper >> rank & 1);
-        if above == 0 && value < low || below == 0 && value > high {
-            return 0;
-        }
-        above |= u8::from(value > low);
-        below |= u8::from(value < high);
-        1 + above + 2 * below
-    }
-}
-
 /// Two terms (target, mask): the least sample that tells them apart, or none.
 pub fn least_telling_term(old: (u32, u32), new: (u32, u32)) -> Option<u32> {
-    least_telling(term_walk(old), term_walk(new))
+    match (least_hit_of_one(old, new), least_hit_of_one(new, old)) {
+        (Some(old), Some(new)) => Some(old.min(new)),
+        (old, new) => old.or(new),
+    }
 }
 
-/// Two accepted ranges (lower, upper, mask): a sample that tells them apart (here the least), or none.
+/// The least sample that hits the one term and misses the other.
+fn least_hit_of_one(one: (u32, u32), other: (u32, u32)) -> Option<u32> {
+    let least = one.0 & one.1;
+    if !term_hit(other.0, other.1, least) {
+        return Some(least);
+    }
+    // it misses as soon as one of the lines that only the other looks at is changed
+    let free = other.1 & !one.1;
+    (free != 0).then_some(least | free & free.wrapping_neg())
+}
+
+/// A range with its bounds on the masked lines: a sample hits when its masked lines, as a number, lie within them.
+struct OnLines {
+    lower: u32,
+    upper: u32,
+    mask: u32,
+}
+
+impl OnLines {
+    fn new((lower, upper, mask): (u32, u32, u32)) -> Self {
+        OnLines { lower: scatter(lower, mask), upper: scatter(upper, mask), mask }
+    }
+
+    /// What the lines of `chosen` decide: `MISS`, `HIT`, or the bounds that a sample still touches.
+    fn state(&self, sample: u32, chosen: u32) -> u32 {
+        let (number, lower, upper) = (sample & self.mask & chosen, self.lower & chosen, self.upper & chosen);
+        if number < lower || number > upper {
+            return MISS;
+        }
+        u32::from(number == lower) + 2 * u32::from(number == upper)
+    }
+
+    /// The least hit among the samples that have these values on the chosen lines, which do not decide for a miss.
+    fn least_hit(&self, sample: u32, chosen: u32) -> u32 {
+        if self.state(sample, chosen) & 1 == 1 {
+            sample | self.lower & !chosen
+        } else {
+            sample
+        }
+    }
+}
+
+const HIT: u32 = 0; // within both bounds, whatever the other lines are; 1 to 3: the bounds touched
+const MISS: u32 = 4;
+
+/// Two accepted ranges (lower, upper, mask): a sample that tells them apart (here the least), or none. Lines are chosen
+/// from the highest down, 0 before 1, until only one of the two can still be hit; two states that came before at the
+/// same line lead to nothing again.
 pub fn least_telling_range(old: (u32, u32, u32), new: (u32, u32, u32)) -> Option<u32> {
-    least_telling(range_walk(old), range_walk(new))
+    let (old, new) = (OnLines::new(old), OnLines::new(new));
+    let lines = old.mask | new.mask;
+    let mut tried = [0u32; 33]; // by the lowest chosen line: one bit for each two states
+    let (mut sample, mut chosen) = (0, 0);
+    loop {
+        let states = (old.state(sample, chosen), new.state(sample, chosen));
+        match states {
+            (MISS, MISS) | (HIT, HIT) => {}
+            (MISS, _) => return Some(new.least_hit(sample, chosen)),
+            (_, MISS) => return Some(old.least_hit(sample, chosen)),
+            (a, b) => {
+                let next = lines & !chosen;
+                let before = &mut tried[chosen.trailing_zeros() as usize];
+                let both = 1 << (5 * a + b);
+                if next != 0 && *before & both == 0 {
+                    *before |= both;
+                    chosen = u32::MAX << next.ilog2();
+                    continue;
+                }
+            }
+        }
+        // back: the lowest chosen line that is 0 becomes 1
+        let zeros = lines & chosen & !sample;
+        if zeros == 0 {
+            return None;
+        }
+        chosen = u32::MAX << zeros.trailing_zeros();
+        sample = (sample | zeros & zeros.wrapping_neg()) & chosen;
+    }
 }
 
 /// Two accepted edges (rise, fall, neither): an earlier and a later sample that tell them apart, or none.
@@ -127,13 +149,10 @@ fn each_line<'a>(old: &[&'a [u8]; 4], new: &[&'a [u8]; 4], mut say: impl FnMut(u
     for section in 0..4 {
         let mut before = old[section].chunks_exact(SIZE[section]).peekable();
         let mut after = new[section].chunks_exact(SIZE[section]).peekable();
-        for slot in 0..MOST[section] {
+        while let Some(slot) = before.peek().into_iter().chain(after.peek()).map(|record| record[0]).min() {
             let old = before.next_if(|record| record[0] == slot);
             let new = after.next_if(|record| record[0] == slot);
             match (old, new) {
-                (None, None) => {}
-                (None, Some(_)) => say(section, slot, Verdict::New),
-                (Some(_), None) => say(section, slot, Verdict::Gone),
                 (Some(old), Some(new)) => {
                     if old[1..DESCRIPTION] != new[1..DESCRIPTION] {
                         say(section, slot, Verdict::Name);
@@ -142,6 +161,8 @@ fn each_line<'a>(old: &[&'a [u8]; 4], new: &[&'a [u8]; 4], mut say: impl FnMut(u
                         say(section, slot, changed(section, &old[DESCRIPTION..], &new[DESCRIPTION..]));
                     }
                 }
+                (None, _) => say(section, slot, Verdict::New),
+                (_, None) => say(section, slot, Verdict::Gone),
             }
         }
     }
@@ -176,10 +197,9 @@ impl Page {
     }
 
     fn hex(&mut self, number: u32) {
+        let digit = |place: usize| b"0123456789ABCDEF"[(number >> (28 - 4 * place) & 15) as usize];
         self.put(b" ");
-        for digit in (0..8).rev() {
-            self.put(&[b"0123456789ABCDEF"[(number >> (4 * digit) & 15) as usize]]);
-        }
+        self.put(&std::array::from_fn::<u8, 8, _>(digit));
     }
 
     fn head(&mut self, section: usize, slot: u8) {

@@ -1,104 +1,107 @@
--- `lines::gather` meets its contract. The loop's invariant: the lines from i up are packed.
--- Assumes nothing.
-use mathlib.Core.Path.{_≡_, sym, ap, ap₂, _∙_}
-use Prim.Native.Nat.{ℕ, zero, suc, _+_, _-_, _*_, _/_, _%_, _^_, _≤_, _<_}
-use native.Mathlib.Nat.{div-one, lt-of-lt-of-le, mod-eq-of-lt}
+-- `lines::gather`, which shifts and masks the sample [L3], meets its contract. The loop's invariant: the lines that are
+-- left give the bits above the packed ones. Assumes nothing.
+use mathlib.Core.Path.{_≡_, sym, ap, _∙_}
+use Prim.Native.Nat.{ℕ, _+_, _*_, _%_, _^_, _≤_, _<_}
+use native.Mathlib.Nat.{add-zero, zero-add, zero-mul, mul-one, pow-suc, pow-succ'}
+use native.Mathlib.Numerals.{add-one}
 use native.Mathlib.Omega.{arith}
 use borrow.Author.Needs.{needs}
-use lib.Bits.{bitOr, or-shifted}
-use lib.Pow.{pow-mono}
+use lib.Arith.{digits-lt}
+use lib.Bits.{bitOr}
+use lib.Count.{onesIn, trailingZeros}
 use Rattle.lines.specs.Line.{line}
-use Rattle.lines.specs.Gather.{pack, gathered}
-use Rattle.lines.proofs.Digit.{bit-lt}
-use Rattle.lines.proofs.Gathering.{gather-line, gather-lt-lines}
+use Rattle.lines.specs.Gather.{gathered, dropLowest}
+use Rattle.lines.proofs.Digit.{bit-lt, put-bit, bit-down}
+use Rattle.lines.proofs.Drop.{drop-le, gather-drop, ones-drop}
+use Rattle.lines.proofs.Gathering.{gather-none, gather-lowest}
+use Rattle.lines.proofs.Ones.{ones-in-le, ones-pos}
 use Rattle.lines.proofs.gather.Statement.{statement}
 use Rattle.lines.proofs.gather.Tie as tie
-use Rattle.lines.proofs.gather.Reads as reads
-use Rattle.lines.proofs.gather.Lts as lts
-use Rattle.lines.proofs.line_value.Reads as line-value-reads
 
--- the lines from i up, packed
-abbrev packedFrom : ℕ → ℕ → ℕ → ℕ
-packedFrom sample mask i = gathered (32 - i) (sample / 2 ^ i) (mask / 2 ^ i)
+record Packing (sample mask packed rank left : ℕ) : Type 0 where
+  fits : left < 2 ^ 32
+  counted : rank + onesIn 32 left ≡ onesIn 32 mask
+  below : packed < 2 ^ rank
+  whole : gathered 32 sample left * 2 ^ rank + packed ≡ gathered 32 sample mask
 
--- a word shifted up by one, with a bit below
-shift-in : (x bit : ℕ) → x < 2 ^ 31 → bit < 2 → bitOr (x * 2 % 4294967296) bit ≡ x * 2 + bit
-shift-in x bit hx hb = rw (mod-eq-of-lt {n = x * 2} {m = 4294967296} (omega arith)) (or-shifted x 1 bit hb)
+module _ (sample mask packed rank left : ℕ) (p : Packing sample mask packed rank left) where
+  some : 0 < left → 0 < onesIn 32 left
+  some h = ones-pos 32 left h (p .fits)
 
--- one turn: the line below i is packed if it is masked
-turn : (sample mask i packed : ℕ) → 0 < i → i ≤ 32 → packed ≡ packedFrom sample mask i
-    → pack (line mask (i - 1)) (line sample (i - 1)) packed ≡ packedFrom sample mask (i - 1)
-turn sample mask zero packed hi h e = absurd (omega arith)
-turn sample mask (suc j) packed hi h e =
-    let down : suc j - 1 ≡ j = omega arith in
-    rw (down, e) (sym (gather-line 32 sample mask j h))
+  room : 0 < left → rank < 32
+  room h = let few = ones-in-le 32 mask in let one = some h in let all = p .counted in omega arith
 
-room : (sample mask i packed : ℕ) → 0 < i → i ≤ 32 → packed ≡ packedFrom sample mask i → packed < 2 ^ 31
-room sample mask i packed hi h e =
-    rw e (lt-of-lt-of-le (gather-lt-lines (32 - i) (sample / 2 ^ i) (mask / 2 ^ i)) (pow-mono {i = 32 - i} {j = 31} (omega arith)))
+  -- one turn: the lowest line that is left is packed
+  turn : 0 < left → (bit left′ : ℕ) → bit ≡ line sample (trailingZeros 32 left) → left′ ≡ dropLowest 32 left
+      → Packing sample mask (bitOr packed (bit * 2 ^ rank % 4294967296)) (rank + 1) left′
+  turn h bit left′ eb el =
+      let small : bit < 2 = rw eb (bit-lt _) in
+      let put = put-bit packed bit rank (room h) small (p .below) in
+      let low : gathered 32 sample left % 2 ≡ bit = gather-lowest 32 sample left h (p .fits) ∙ sym eb in
+      let high = gather-drop 32 sample left in
+      let next : gathered 32 sample left ≡ gathered 32 sample (dropLowest 32 left) * 2 + bit = omega arith in
+      let one = some h in
+      let all = p .counted in
+      let fewer = ones-drop 32 left in
+      let less = drop-le 32 left in
+      let have = p .fits in
+      record {
+        fits = rw el (omega arith);
+        counted = rw el (omega arith);
+        below = rw (put, add-one rank, pow-succ' 2 rank) (digits-lt small (p .below));
+        whole =
+            rw (el, put, add-one rank, pow-suc 2 rank)
+            (sym (ap (λ (x : ℕ). x * 2 ^ rank + packed) next ∙ bit-down (gathered 32 sample (dropLowest 32 left)) bit (2 ^ rank) packed) ∙ p .whole);
+      }
 
-turn-masked : (sample mask i packed d bit : ℕ) → 0 < i → i ≤ 32 → packed ≡ packedFrom sample mask i
-    → d ≡ line mask (i - 1) → d ≡ 1 → bit ≡ line sample (i - 1)
-    → bitOr (packed * 2 % 4294967296) bit ≡ packedFrom sample mask (i - 1)
-turn-masked sample mask i packed d bit hi h e m one b =
-    shift-in packed bit (room sample mask i packed hi h e) (rw b (bit-lt (sample / 2 ^ (i - 1))))
-    ∙ ap (λ (x : ℕ). packed * 2 + x) b
-    ∙ ap (λ (x : ℕ). pack x (line sample (i - 1)) packed) (sym one ∙ m)
-    ∙ turn sample mask i packed hi h e
-
-turn-unmasked : (sample mask i packed d : ℕ) → 0 < i → i ≤ 32 → packed ≡ packedFrom sample mask i
-    → d ≡ line mask (i - 1) → (d ≡ 1 → ⊥) → packed ≡ packedFrom sample mask (i - 1)
-turn-unmasked sample mask i packed d hi h e m ne =
-    let none : 0 ≡ line mask (i - 1) = omega (arith, bit-lt (mask / 2 ^ (i - 1))) in
-    ap (λ (x : ℕ). pack x (line sample (i - 1)) packed) none ∙ turn sample mask i packed hi h e
-
-whole : (sample mask i packed : ℕ) → i ≤ 0 → packed ≡ packedFrom sample mask i → packed ≡ gathered 32 sample mask
-whole sample mask zero packed h e = e ∙ ap₂ (gathered 32) (div-one sample) (div-one mask)
-whole sample mask (suc i) packed h e = absurd (omega arith)
+  -- no line is left
+  done : left ≤ 0 → packed ≡ gathered 32 sample mask
+  done h =
+      let none : left ≡ 0 = omega arith in
+      sym (zero-add packed) ∙ ap (λ (x : ℕ). x + packed) (sym (zero-mul (2 ^ rank)))
+      ∙ ap (λ (x : ℕ). x * 2 ^ rank + packed) (sym (ap (gathered 32 sample) none ∙ gather-none 32 sample)) ∙ p .whole
 
 abbrev Inv-loop : tie.InvT-loop
-Inv-loop sample mask packed₀ i₀ packed i = (i ≤ 32) × (packed ≡ packedFrom sample mask i)
+Inv-loop sample mask packed₀ rank₀ left₀ packed rank left = Packing sample mask packed rank left
 
 abbrev μ-loop : tie.MeasureT-loop
-μ-loop sample mask packed₀ i₀ packed i = i
+μ-loop sample mask packed₀ rank₀ left₀ packed rank left = onesIn 32 left
 
 loop-holds : tie.Need-loop-holds Inv-loop μ-loop
-unfolding gathered
-loop-holds c = search needs
-
-sub-i : tie.Need-sub-i Inv-loop μ-loop
-sub-i c = omega arith
+loop-holds c =
+    let all = gathered 32 (c .args .sample) (c .args .mask) in
+    record {
+      fits = c .fits .mask .fits;
+      counted = zero-add _;
+      below = omega arith;
+      whole = add-zero (all * 1) ∙ mul-one all;
+    }
 
 line-value-requires : tie.Need-line-value-requires Inv-loop μ-loop
 line-value-requires c κs = search needs
 
-line-value-requires-2 : tie.Need-line-value-requires-2 Inv-loop μ-loop
-line-value-requires-2 c κs = search needs
+shl-packed : tie.Need-shl-packed Inv-loop μ-loop
+shl-packed c = room _ _ _ _ _ (c .before .before .loop .inv) (c .before .loop-test .taken)
+
+add-rank : tie.Need-add-rank Inv-loop μ-loop
+add-rank c = let h = room _ _ _ _ _ (c .before .before .loop .inv) (c .before .loop-test .taken) in omega arith
+
+drop-lowest-requires : tie.Need-drop-lowest-requires Inv-loop μ-loop
+drop-lowest-requires c κs = search needs
 
 loop-less : tie.Need-loop-less Inv-loop μ-loop
-loop-less c = omega arith
+loop-less c =
+    let looped = c .before .before .before .loop in
+    let one = some _ _ _ _ _ (looped .inv) (c .before .before .loop-test .taken) in
+    rw (c .drop-lowest .ensures, ones-drop 32 (looped .left)) (omega arith)
 
 loop-again : tie.Need-loop-again Inv-loop μ-loop
 loop-again c =
-    let inside = c .before .before .before in (
-      omega arith,
-      turn-masked _ _ _ _ _ _ (inside .loop-test .taken) (inside .before .loop .inv .0) (inside .before .loop .inv .1)
-          (c .before .before .line-value .ensures) (c .before .if1 .taken) (c .line-value2 .ensures),
-    )
-
-loop-less-2 : tie.Need-loop-less-2 Inv-loop μ-loop
-loop-less-2 c = omega arith
-
-loop-again-2 : tie.Need-loop-again-2 Inv-loop μ-loop
-loop-again-2 c =
-    let inside = c .before .before in (
-      omega arith,
-      turn-unmasked _ _ _ _ _ (inside .loop-test .taken) (inside .before .loop .inv .0) (inside .before .loop .inv .1)
-          (c .before .line-value .ensures) (c .if1 .left),
-    )
+    turn _ _ _ _ _ (c .before .before .before .loop .inv) (c .before .before .loop-test .taken) _ _
+    (c .before .line-value .ensures) (c .drop-lowest .ensures)
 
 returns : tie.Need-returns Inv-loop μ-loop
-returns c = whole _ _ _ _ (omega arith) (c .before .loop .inv .1)
+returns c = done _ _ _ _ _ (c .before .loop .inv) (omega arith)
 
 pub gather-spec : {M : Type 1} → statement M
 gather-spec =
@@ -107,11 +110,10 @@ gather-spec =
     Inv-loop
     μ-loop
     loop-holds
-    sub-i
     line-value-requires
-    line-value-requires-2
+    shl-packed
+    add-rank
+    drop-lowest-requires
     loop-less
     loop-again
-    loop-less-2
-    loop-again-2
     returns)

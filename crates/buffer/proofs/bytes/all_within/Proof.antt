@@ -1,68 +1,55 @@
--- `buffer::all_within` meets its contract. The loop's invariant: the bytes from i on decide the answer.
--- Assumes nothing.
-use native.Mathlib.Omega.{arith}
-use Prim.Native.Nat.{_≤_, _-_}
-use mathlib.Core.Path.{_≡_, _∙_, refl, sym}
-use lib.ListN.{length, drop}
+-- `buffer::all_within` meets its contract: the first eight bytes, where there are as many, then the rest. Assumes nothing.
+use mathlib.Core.Bool.{Bool}
+use mathlib.Core.Logic.{⊎-elim}
+use mathlib.Core.Path.{_≡_, _∙_, sym, ap}
+use Prim.Native.Nat.{ℕ}
+use lib.ListN.{drop}
+use lib.Seq.{length-take-le}
 use denote.Ref.{now}
+use borrow.Author.Needs.{needs}
+use borrow.Author.Tests.{not-true, not-false}
 use Rattle.buffer.specs.Bytes.{allWithin}
-use Rattle.buffer.proofs.Within.{within-low, within-high, within-next, within-end}
+use Rattle.buffer.proofs.Within.{eight-not, eight-then}
 use Rattle.buffer.proofs.bytes.all_within.Statement.{statement}
 use Rattle.buffer.proofs.bytes.all_within.Tie as tie
 
-abbrev Inv-loop : tie.InvT-loop
-Inv-loop low high bytes i₀ i = (i ≤ length bytes) × (allWithin low high bytes ≡ allWithin low high (drop i bytes))
+prefix-requires : tie.Need-prefix-requires
+prefix-requires c κs = search needs
 
-abbrev μ-loop : tie.MeasureT-loop
-μ-loop low high bytes i₀ i = length bytes - i
+eight-within-requires : tie.Need-eight-within-requires
+eight-within-requires c κs = rw (c .prefix .ensures) (length-take-le 8 (now (c .before .before .before .args .bytes)) (c .before .if1 .taken))
 
-loop-holds : tie.Need-loop-holds Inv-loop μ-loop
-loop-holds c = (omega arith, refl)
-
-shared-slice-read-b : tie.Need-shared-slice-read-b Inv-loop μ-loop
-shared-slice-read-b c = omega arith
-
-returns : tie.Need-returns Inv-loop μ-loop
+returns : tie.Need-returns
 returns c =
-    let p = c .before .before .before in
-    let a = p .before .args in
-    sym (p .loop .inv .1 ∙ within-low (a .low) (a .high) (now (a .bytes)) (p .loop .i) (omega arith) (c .if1 .taken))
+    let a = c .before .before .before .before .before .args in
+    let e = c .before .eight-within .ensures ∙ ap (allWithin (a .low) (a .high)) (c .before .before .prefix .ensures) in
+    sym (eight-not (a .low) (a .high) (now (a .bytes)) _ e (not-true _ (c .if2 .taken)))
 
-returns-2 : tie.Need-returns-2 Inv-loop μ-loop
+suffix-requires : tie.Need-suffix-requires
+suffix-requires c κs = search needs
+
+each-within-requires : tie.Need-each-within-requires
+each-within-requires c κs = search needs
+
+returns-2 : tie.Need-returns-2
 returns-2 c =
-    let p = c .before .before .before .before in
-    let a = p .before .args in
-    sym (p .loop .inv .1 ∙ within-high (a .low) (a .high) (now (a .bytes)) (p .loop .i) (omega arith) (omega arith) (c .if2 .taken))
-
-add-i : tie.Need-add-i Inv-loop μ-loop
-add-i c = omega arith
-
-loop-less : tie.Need-loop-less Inv-loop μ-loop
-loop-less c = omega arith
-
-loop-again : tie.Need-loop-again Inv-loop μ-loop
-loop-again c =
-    let p = c .before .before .before .before in
-    let a = p .before .args in
-    (omega arith, p .loop .inv .1 ∙ within-next (a .low) (a .high) (now (a .bytes)) (p .loop .i) (omega arith) (omega arith) (c .if2 .left))
-
-returns-3 : tie.Need-returns-3 Inv-loop μ-loop
-returns-3 c =
-    let p = c .before in
-    let a = p .before .args in
-    sym (p .loop .inv .1 ∙ within-end (a .low) (a .high) (now (a .bytes)) (p .loop .i) (omega arith))
+    let a = c .before .before .before .before .args in
+    let from = c .before .before .if1 .from in
+    let rest : ℕ → Bool = λ n. allWithin (a .low) (a .high) (drop n (now (a .bytes))) in
+    let same : rest from ≡ rest 0 = ⊎-elim
+    (λ w. ap rest (w .4)
+    ∙ sym (eight-then (a .low) (a .high) (now (a .bytes)) _ (w .2 .ensures ∙ ap (allWithin (a .low) (a .high)) (w .1 .ensures)) (not-false _ (w .3 .left))))
+    (λ w. ap rest (w .1))
+    (c .before .before .if1 .came) in
+    c .each-within .ensures ∙ ap (allWithin (a .low) (a .high)) (c .before .suffix .ensures) ∙ same
 
 pub all-within-spec : {M : Type 1} → statement M
 all-within-spec =
     tie.close
     (tie.spec
-    Inv-loop
-    μ-loop
-    loop-holds
-    shared-slice-read-b
+    prefix-requires
+    eight-within-requires
     returns
-    returns-2
-    add-i
-    loop-less
-    loop-again
-    returns-3)
+    suffix-requires
+    each-within-requires
+    returns-2)

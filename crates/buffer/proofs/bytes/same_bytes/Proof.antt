@@ -5,8 +5,8 @@ use Prim.Native.Nat.{_≤_, _-_}
 use native.Mathlib.Omega.{arith}
 use borrow.Author.Needs.{needs}
 use lib.ListN.{length, drop}
-use Rattle.lines.specs.Same.{same}
-use Rattle.lines.proofs.Compare.{same-lengths, same-more, same-differ, same-end}
+use Rattle.buffer.specs.Same.{same}
+use Rattle.buffer.proofs.Compare.{same-lengths, same-more, same-differ, same-end}
 use Rattle.buffer.proofs.bytes.same_bytes.Statement.{statement}
 use Rattle.buffer.proofs.bytes.same_bytes.Tie as tie
 

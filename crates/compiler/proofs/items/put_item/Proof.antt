@@ -1,78 +1,93 @@
--- `compiler::put_item` meets its contract: each section has its writer, and no section but the sheet's four has a record without fault.
--- Assumes nothing.
-use Prim.Native.Nat.{ℕ}
-use mathlib.Core.Path.{_≡_, sym, ap}
+-- `compiler::put_item` meets its contract, for every section alike. Assumes nothing.
+use Prim.Native.Nat.{ℕ, _≤_}
+use mathlib.Core.Path.{_≡_, sym, ap, _∙_}
+use mathlib.Core.List.{List}
 use native.Mathlib.Omega.{arith}
-use borrow.Author.Needs.{needs}
 use denote.Ref.{now}
-use Rattle.records.specs.Sections.{slotOf}
-use Rattle.compiler.specs.Items.{item}
-use Rattle.compiler.proofs.ItemLaws.{section-known, delivers}
+use lib.ListN.{length, drop}
+use Rattle.buffer.specs.Room.{bytes, fill, Delivered}
+use Rattle.buffer.specs.declared.Outcome.{Outcome}
+use Rattle.buffer.proofs.Writing.{delivers, filled}
+use Rattle.records.specs.Sections.{slotOf, descriptionOf}
+use Rattle.kinds.specs.declared.Row.{Row}
+use Rattle.kinds.specs.Table.{wordsOf, addressOf}
+use Rattle.kinds.proofs.Rows.{chains-few, chain-short}
+use Rattle.kinds.proofs.Ways.{words-few}
+use Rattle.compiler.proofs.Joined.{chains-joined, item-joined}
+use Rattle.compiler.proofs.ItemLaws.{section-known, item-sent, room-fits}
+use Rattle.kinds.proofs.Addresses.{address-small}
+use borrow.Author.Needs.{needs}
 use Rattle.compiler.proofs.items.put_item.Statement.{statement}
 use Rattle.compiler.proofs.items.put_item.Tie as tie
 
-put-term-requires : tie.Need-put-term-requires
-put-term-requires c κs = search needs
+-- the words stand at the start of the room
+words-there : (k : ℕ) (d e room₀ room : List ℕ) (r : Outcome) → e ≡ d → length room₀ ≡ 32 → Delivered (bytes (wordsOf k e)) room₀ r room
+    → room ≡ fill (wordsOf k d) room₀
+words-there k d e room₀ room r same l w =
+    filled (wordsOf k e) room₀ r room (rw l (words-few k e)) w ∙ ap (λ (x : List ℕ). fill (wordsOf k x) room₀) same
 
-put-range-requires : tie.Need-put-range-requires
-put-range-requires c κs = search needs
+description-requires : tie.Need-description-requires
+description-requires c κs = search needs
 
-put-edge-requires : tie.Need-put-edge-requires
-put-edge-requires c κs = search needs
+put-words-requires : tie.Need-put-words-requires
+put-words-requires c κs = search needs
 
-put-sum-requires : tie.Need-put-sum-requires
-put-sum-requires c κs =
-    let p = c .before .before .before .before .pre in
-    let a = c .before .before .before .before .args in
-    let three : a .section ≡ 3 = omega (arith, section-known (a .section) (slotOf (now (a .rec))) (p .slot-fits), c .before .match .rest) in
-    rw three at p
+slot-requires : tie.Need-slot-requires
+slot-requires c κs = search needs
+
+address-requires : tie.Need-address-requires
+address-requires c κs = search needs
+
+row-of-requires : tie.Need-row-of-requires
+row-of-requires c κs = search needs
+
+put-chains-requires : tie.Need-put-chains-requires
+put-chains-requires c κs =
+    let start = c .before .before .before .before .before .before .before .before .before .before .before .before .before in
+    let r : List ℕ = now (start .args .rec) in
+    let k : ℕ = start .args .section in
+    let row = c .before .before .row-of in
+    let address = c .before .before .before .address .ensures ∙ ap (addressOf k) (c .before .before .before .before .slot .ensures) in
+    let chains = ap (λ (x : Row). x .chains) (row .ensures) in
+    let each = ap (λ (x : Row). x .each) (row .ensures) in
+    let words = words-there k (descriptionOf r) _ _ _ _ (c .before .before .before .before .before .before .before .before .description .ensures) (start .pre .1) (c .before .before .before .before .before .before .before .put-words .ensures) in
+    let more : List ℕ = drop (length (wordsOf k (descriptionOf r))) (now (start .args .words)) in (
+      omega (arith, address, address-small k (slotOf r) (section-known k (slotOf r) (start .pre .0 .slot-fits)) (start .pre .0 .slot-fits)),
+      omega (arith, chains, chains-few k),
+      omega (arith, each, chain-short k),
+      room-fits k (descriptionOf r) _ _ _ more chains each words,
+    )
 
 same-length : tie.Need-same-length
 same-length c = search needs
 
-returns : tie.Need-returns
-returns c =
-    let a = c .before .before .before .before .before .before .before .args in
-    delivers (ap (λ (k : ℕ). item k (now (a .rec))) (sym (c .before .before .before .before .match .keys1))) (c .before .before .put-term .ensures)
-
 same-length-2 : tie.Need-same-length-2
 same-length-2 c = search needs
 
-returns-2 : tie.Need-returns-2
-returns-2 c =
-    let a = c .before .before .before .before .before .before .before .args in
-    delivers (ap (λ (k : ℕ). item k (now (a .rec))) (sym (c .before .before .before .before .match .keys2))) (c .before .before .put-range .ensures)
-
-same-length-3 : tie.Need-same-length-3
-same-length-3 c = search needs
-
-returns-3 : tie.Need-returns-3
-returns-3 c =
-    let a = c .before .before .before .before .before .before .before .args in
-    delivers (ap (λ (k : ℕ). item k (now (a .rec))) (sym (c .before .before .before .before .match .keys3))) (c .before .before .put-edge .ensures)
-
-same-length-4 : tie.Need-same-length-4
-same-length-4 c = search needs
-
-returns-4 : tie.Need-returns-4
-returns-4 c =
-    let a = c .before .before .before .before .before .before .before .args in
-    let three : a .section ≡ 3 = omega (arith, section-known (a .section) (slotOf (now (a .rec))) (c .before .before .before .before .before .before .before .pre .slot-fits), c .before .before .before .before .match .rest) in
-    delivers (ap (λ (k : ℕ). item k (now (a .rec))) (sym three)) (c .before .before .put-sum .ensures)
+returns : tie.Need-returns
+returns c =
+    let start = c .before .before .before .before .before .before .before .before .before .before .before .before .before .before .before .before in
+    let r : List ℕ = now (start .args .rec) in
+    let k : ℕ = start .args .section in
+    let row = c .before .before .before .before .before .row-of in
+    let address = c .before .before .before .before .before .before .address .ensures ∙ ap (addressOf k) (c .before .before .before .before .before .before .before .slot .ensures) in
+    let chains = ap (λ (x : Row). x .chains) (row .ensures) in
+    let each = ap (λ (x : Row). x .each) (row .ensures) in
+    let words = words-there k (descriptionOf r) _ _ _ _ (c .before .before .before .before .before .before .before .before .before .before .before .description .ensures) (start .pre .1) (c .before .before .before .before .before .before .before .before .before .before .put-words .ensures) in
+    let more : List ℕ = drop (length (wordsOf k (descriptionOf r))) (now (start .args .words)) in
+    let sent = item-sent k r _ _ _ _ more address chains each words in
+    delivers (sym (chains-joined _ _) ∙ sent ∙ item-joined k r) (c .before .before .put-chains .ensures)
 
 pub put-item-spec : {M : Type 1} → statement M
 put-item-spec =
     tie.close
     (tie.spec
-    put-term-requires
-    put-range-requires
-    put-edge-requires
-    put-sum-requires
+    description-requires
+    put-words-requires
+    slot-requires
+    address-requires
+    row-of-requires
+    put-chains-requires
     same-length
-    returns
     same-length-2
-    returns-2
-    same-length-3
-    returns-3
-    same-length-4
-    returns-4)
+    returns)

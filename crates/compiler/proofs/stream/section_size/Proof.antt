@@ -11,23 +11,24 @@ use Rattle.buffer.specs.declared.Verdict.the-variants.{Accepted}
 use Rattle.records.specs.Sections.{sections}
 use Rattle.sheet.specs.Reading.{verdict}
 use Rattle.records.specs.Records.{recordCount}
-use Rattle.sheet.specs.Parts.{sectionUnchecked}
+use Rattle.sheet.specs.Parts.{sectionOf}
 use Rattle.sheet.specs.Parsed.{parse}
 use Rattle.compiler.specs.Items.{itemSize}
-use Rattle.compiler.specs.Stream.{items}
+use Rattle.compiler.specs.Chains.{loadedIn, commandsOf}
+use Rattle.compiler.proofs.Joined.{items-joined}
 use Rattle.compiler.proofs.StreamLaws.{items-length, part-count, part-bound}
 use Rattle.compiler.proofs.stream.section_size.Statement.{statement}
 use Rattle.compiler.proofs.stream.section_size.Tie as tie
 
 measured : (s : List ℕ) (ok : verdict s ≡ Accepted) (k : ℕ) (h : k < sections) (part : List ℕ) (count size : ℕ)
-    → part ≡ sectionUnchecked s k → count ≡ recordCount k part → size ≡ itemSize k
-    → (count * size ≡ length (items k (getD (parse s) k []))) × (count * size ≤ 262144)
+    → part ≡ sectionOf s k → count ≡ recordCount k part → size ≡ itemSize k
+    → (count * size ≡ length (commandsOf (loadedIn k (getD (parse s) k [])))) × (count * size ≤ 262144)
 measured s ok k h part count size ep ec es =
     let product : count * size ≡ length (getD (parse s) k []) * itemSize k = ap₂ _*_ (ec ∙ ap (recordCount k) ep ∙ part-count s ok k h) es in
-    (product ∙ sym (items-length k (getD (parse s) k [])), rw product (part-bound s ok k h))
+    (product ∙ sym (items-length k (getD (parse s) k [])) ∙ ap length (items-joined k (getD (parse s) k [])), rw product (part-bound s ok k h))
 
-section-unchecked-requires : tie.Need-section-unchecked-requires
-section-unchecked-requires c κs = search needs
+part-of-requires : tie.Need-part-of-requires
+part-of-requires c κs = search needs
 
 record-count-requires : tie.Need-record-count-requires
 record-count-requires c κs = search needs
@@ -39,20 +40,20 @@ mul-result : tie.Need-mul-result
 mul-result c =
     let a = c .before .before .before .before .args in
     let p = c .before .before .before .before .pre in
-    let m = measured (now (a .sheet)) (p .0) (a .section) (p .1) _ _ _ (c .before .before .section-unchecked .ensures) (c .before .record-count .ensures) (c .item-size .ensures) in
+    let m = measured (now (a .sheet)) (p .0) (a .section) (p .2) _ _ _ (c .before .before .part-of .ensures) (c .before .record-count .ensures) (c .item-size .ensures) in
     record { fits = omega (arith, m .1) }
 
 returns : tie.Need-returns
 returns c =
     let a = c .before .before .before .before .args in
     let p = c .before .before .before .before .pre in
-    measured (now (a .sheet)) (p .0) (a .section) (p .1) _ _ _ (c .before .before .section-unchecked .ensures) (c .before .record-count .ensures) (c .item-size .ensures)
+    measured (now (a .sheet)) (p .0) (a .section) (p .2) _ _ _ (c .before .before .part-of .ensures) (c .before .record-count .ensures) (c .item-size .ensures)
 
 pub section-size-spec : {M : Type 1} → statement M
 section-size-spec =
     tie.close
     (tie.spec
-    section-unchecked-requires
+    part-of-requires
     record-count-requires
     item-size-requires
     mul-result

@@ -2,7 +2,7 @@
 -- sending order on take up, are the whole.
 -- Assumes nothing.
 use Prim.Native.Nat.{ℕ, _+_, _-_, _*_, _≤_}
-use mathlib.Core.Path.{_≡_, refl, ap, _∙_}
+use mathlib.Core.Path.{_≡_, refl, sym, ap, _∙_}
 use mathlib.Core.List.{List, []}
 use native.Mathlib.Nat.{zero-add}
 use native.Mathlib.Omega.{arith}
@@ -10,24 +10,25 @@ use borrow.Author.Needs.{needs}
 use denote.Ref.{now}
 use lib.ListN.{length, getD, drop, length-append}
 use Rattle.sheet.specs.Parsed.{parse}
-use Rattle.compiler.proofs.ItemLaws.{sentAs, sent-known}
-use Rattle.compiler.specs.Stream.{items, sendingOrder, sent, streamOf}
+use Rattle.kinds.proofs.Addresses.{sentAs, sent-known}
+use Rattle.compiler.specs.Stream.{streamOf}
+use Rattle.kinds.specs.Table.{sendingOrder}
+use Rattle.compiler.proofs.Joined.{items, sent, items-joined, stream-sent}
 use Rattle.compiler.proofs.StreamLaws.{sent-from, sent-end}
 use Rattle.compiler.proofs.stream.stream_size.Statement.{statement}
 use Rattle.compiler.proofs.stream.stream_size.Tie as tie
 
 abbrev Inv-loop : tie.InvT-loop
-Inv-loop sheet size₀ i₀ size i =
+Inv-loop sheet found size₀ i₀ size i =
     (i ≤ length sendingOrder)
     × (size ≤ i * 262144)
     × (size + length (sent (drop i sendingOrder) (parse sheet)) ≡ length (streamOf (parse sheet)))
 
 abbrev μ-loop : tie.MeasureT-loop
-μ-loop sheet size₀ i₀ size i = length sendingOrder - i
+μ-loop sheet found size₀ i₀ size i = length sendingOrder - i
 
 loop-holds : tie.Need-loop-holds Inv-loop μ-loop
-unfolding streamOf
-loop-holds c = (omega arith, omega arith, zero-add _)
+loop-holds c = (omega arith, omega arith, zero-add _ ∙ ap length (sym (stream-sent _)))
 
 mul-section-size : tie.Need-mul-section-size Inv-loop μ-loop
 mul-section-size c = search needs
@@ -36,7 +37,7 @@ array-read-section-size : tie.Need-array-read-section-size Inv-loop μ-loop
 array-read-section-size c = search needs
 
 section-size-requires : tie.Need-section-size-requires Inv-loop μ-loop
-section-size-requires c κs = (c .before .before .before .pre, sent-known (c .before .loop .i) (omega arith))
+section-size-requires c κs = (c .before .before .before .pre .0, c .before .before .before .pre .1, sent-known (c .before .loop .i) (omega arith))
 
 add-size : tie.Need-add-size Inv-loop μ-loop
 add-size c = omega (arith, c .section-size .ensures .1)
@@ -54,7 +55,7 @@ loop-again c =
     let k = sentAs i in
     let rest = sent (drop (i + 1) sendingOrder) p in
     let left = ap length (sent-from sendingOrder p i k (omega arith) refl) ∙ length-append (items k (getD p k [])) rest in
-    (omega arith, omega (arith, c .section-size .ensures .1), omega (arith, left, c .section-size .ensures .0))
+    (omega arith, omega (arith, c .section-size .ensures .1), omega (arith, left, c .section-size .ensures .0, ap length (items-joined k (getD p k []))))
 
 returns : tie.Need-returns Inv-loop μ-loop
 returns c =

@@ -9,7 +9,7 @@ use native.Mathlib.Omega.{arith}
 use lib.ListN.{drop}
 use Rattle.edge.specs.Model.{wordsHit}
 use Rattle.lut.proofs.Runs.{run-needed, run-other}
-use Rattle.edge.proofs.Words.{walk-hit, walk-on, walk-end}
+use Rattle.edge.proofs.WordLaws.{walk-hit, walk-on, walk-end}
 use Rattle.edge.proofs.model.run_edge.Statement.{statement}
 use Rattle.edge.proofs.model.run_edge.Tie as tie
 

@@ -21,10 +21,10 @@ table-hit-requires-2 : tie.Need-table-hit-requires-2
 table-hit-requires-2 c κs = search needs
 
 returns : tie.Need-returns
-returns c = or-first _ _ _ (c .if1 .taken) (c .before .table-hit .ensures)
+returns c = or-first _ _ _ (c .if1 .taken) (c .before .before .table-hit .ensures)
 
 returns-2 : tie.Need-returns-2
-returns-2 c = or-second _ _ _ _ (c .before .if1 .left) (c .before .before .table-hit .ensures) (c .table-hit2 .ensures)
+returns-2 c = or-second _ _ _ _ (c .if1 .left) (c .before .before .table-hit .ensures) (c .before .table-hit2 .ensures)
 
 pub word-hit-spec : {M : Type 1} → statement M
 word-hit-spec =

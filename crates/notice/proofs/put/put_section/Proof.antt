@@ -1,11 +1,12 @@
--- `notice::put::put_section` meets its contract: a walk over the slots, with a cursor into each sheet's records. Assumes nothing.
+-- `notice::put::put_section` meets its contract: a walk over the slots, with a cursor into each sheet's records.
+-- Assumes nothing.
 use Prim.Native.Nat.{_-_}
 use mathlib.Core.Path.{_≡_}
 use native.Mathlib.Omega.{arith}
 use denote.Ref.{now}
 use Rattle.records.specs.Sections.{mostOf}
-use Rattle.records.proofs.Bounds.{most-byte}
-use Rattle.notice.proofs.Walk.{Walking, walking-start, walking-turn, walking-end, cursor-fits}
+use Rattle.kinds.proofs.Rows.{most-byte}
+use Rattle.notice.proofs.Walk.{Walking, walking-start, walking-room, walking-turn, walking-end, cursor-fits}
 use borrow.Author.Needs.{needs}
 use Rattle.notice.proofs.put.put_section.Statement.{statement}
 use Rattle.notice.proofs.put.put_section.Tie as tie
@@ -39,8 +40,7 @@ cast-put-slot : tie.Need-cast-put-slot Inv-loop μ-loop
 cast-put-slot c = omega (arith, most-byte (c .before .before .before .before .before .before .before .before .before .args .section))
 
 put-slot-requires : tie.Need-put-slot-requires Inv-loop μ-loop
-put-slot-requires c κs = let w = c .before .before .before .before .loop .inv .1 in
-    omega (arith, w .low, w .pending .size, c .before .before .before .before .before .before .before .before .before .pre .0)
+put-slot-requires c κs = walking-room _ _ (now (c .before .before .before .before .before .before .before .before .before .args .old)) (now (c .before .before .before .before .before .before .before .before .before .args .new)) _ _ _ _ _ _ _ _ (c .before .before .before .before .loop .inv .1) (omega arith) (c .before .before .record-with .ensures) (c .before .record-with2 .ensures)
 
 add-i : tie.Need-add-i Inv-loop μ-loop
 add-i c = let w = c .before .before .before .before .before .before .before .loop .inv .1 in
@@ -58,10 +58,10 @@ loop-less c = omega arith
 
 loop-again : tie.Need-loop-again Inv-loop μ-loop
 loop-again c = let i = c .before .before .before .before .before .before .before .loop .inv in
-    (i .0, walking-turn _ _ _ _ _ _ _ _ _ _ _ _ _ _ (i .1) (omega arith) (c .before .before .before .before .before .record-with .ensures) (c .before .before .before .before .record-with2 .ensures) (c .before .before .put-slot .ensures))
+    (i .0, walking-turn _ _ (now (c .before .before .before .before .before .before .before .before .before .before .before .before .args .old)) (now (c .before .before .before .before .before .before .before .before .before .before .before .before .args .new)) _ _ _ _ _ _ _ _ (i .1) (omega arith) (c .before .before .before .before .before .record-with .ensures) (c .before .before .before .before .record-with2 .ensures) _ _ (c .before .before .put-slot .ensures))
 
 same-length : tie.Need-same-length Inv-loop μ-loop
-same-length c = c .before .loop .inv .1 .pending .size
+same-length c = c .before .loop .inv .1 .left .pending .size
 
 returns : tie.Need-returns Inv-loop μ-loop
 returns c = walking-end _ _ _ _ _ _ _ _ _ _ (c .before .loop .inv .1) (omega arith)

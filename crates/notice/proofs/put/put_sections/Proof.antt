@@ -1,39 +1,79 @@
--- `notice::put::put_sections` meets its contract: section by section. Assumes nothing.
+-- `put_sections` meets its contract: section by section. Assumes nothing.
 use Prim.Native.Nat.{_-_}
-use mathlib.Core.Path.{sym}
 use native.Mathlib.Omega.{arith}
 use denote.Ref.{now}
 use Rattle.records.specs.Sections.{sections}
-use Rattle.notice.proofs.Across.{part-ordered, Going, going-start, going-room, going-turn, going-end}
+use Rattle.notice.proofs.Across.{Cut, part-records, part-ordered, Going, going-start, going-room, going-turn, going-end}
 use borrow.Author.Needs.{needs}
 use Rattle.notice.proofs.put.put_sections.Statement.{statement}
 use Rattle.notice.proofs.put.put_sections.Tie as tie
 
 abbrev Inv-loop : tie.InvT-loop
-Inv-loop out₀ old new at₀ section₀ out at section = Going old new out₀ out at section
+Inv-loop out₀ old new olds news at₀ section₀ out at section = Going old new out₀ out at section
 
 abbrev μ-loop : tie.MeasureT-loop
-μ-loop out₀ old new at₀ section₀ out at section = sections - section
+μ-loop out₀ old new olds news at₀ section₀ out at section = sections - section
+
+-- the parts are cut out of the sheets
+old-cut : (c : tie.After-prefix Inv-loop μ-loop) → Cut (now (c .before .before .before .before .before .before .before .before .before .args .old)) (c .before .before .before .before .before .before .before .before .before .args .t4) (c .before .before .before .before .before .loop .section) (now (c .prefix .result))
+old-cut c =
+    let s = c .before .before .before .before .before .before .before .before .before in
+    record { accepted = s .pre .1 .0 .0; laid = s .pre .1 .0 .1; is = rw (c .before .before .suffix .ensures) at (c .prefix .ensures) }
+
+new-cut : (c : tie.After-prefix2 Inv-loop μ-loop) → Cut (now (c .before .before .before .before .before .before .before .before .before .before .before .before .before .args .new)) (c .before .before .before .before .before .before .before .before .before .before .before .before .before .args .t5) (c .before .before .before .before .before .before .before .before .before .loop .section) (now (c .prefix2 .result))
+new-cut c =
+    let s = c .before .before .before .before .before .before .before .before .before .before .before .before .before in
+    record { accepted = s .pre .1 .1 .0; laid = s .pre .1 .1 .1; is = rw (c .before .before .suffix2 .ensures) at (c .prefix2 .ensures) }
 
 loop-holds : tie.Need-loop-holds Inv-loop μ-loop
-loop-holds c = going-start (now (c .before .before .before .args .old)) (now (c .before .before .before .args .new)) (now (c .before .before .before .args .out)) (c .before .before .before .pre .0)
+loop-holds c =
+    let s = c .before .before .before in
+    going-start (now (s .args .old)) (now (s .args .new)) (now (s .args .out)) (s .pre .0)
 
-section-unchecked-requires : tie.Need-section-unchecked-requires Inv-loop μ-loop
-section-unchecked-requires c κs = search needs
+mul-suffix : tie.Need-mul-suffix Inv-loop μ-loop
+mul-suffix c = search needs
 
-section-unchecked-requires-2 : tie.Need-section-unchecked-requires-2 Inv-loop μ-loop
-section-unchecked-requires-2 c κs = search needs
+element-copy-out-suffix : tie.Need-element-copy-out-suffix Inv-loop μ-loop
+element-copy-out-suffix c = search needs
+
+suffix-requires : tie.Need-suffix-requires Inv-loop μ-loop
+suffix-requires c κs = search needs
+
+mul-prefix : tie.Need-mul-prefix Inv-loop μ-loop
+mul-prefix c = search needs
+
+element-copy-out-prefix : tie.Need-element-copy-out-prefix Inv-loop μ-loop
+element-copy-out-prefix c = search needs
+
+prefix-requires : tie.Need-prefix-requires Inv-loop μ-loop
+prefix-requires c κs = search needs
+
+mul-suffix-2 : tie.Need-mul-suffix-2 Inv-loop μ-loop
+mul-suffix-2 c = search needs
+
+element-copy-out-suffix-2 : tie.Need-element-copy-out-suffix-2 Inv-loop μ-loop
+element-copy-out-suffix-2 c = search needs
+
+suffix-requires-2 : tie.Need-suffix-requires-2 Inv-loop μ-loop
+suffix-requires-2 c κs = search needs
+
+mul-prefix-2 : tie.Need-mul-prefix-2 Inv-loop μ-loop
+mul-prefix-2 c = search needs
+
+element-copy-out-prefix-2 : tie.Need-element-copy-out-prefix-2 Inv-loop μ-loop
+element-copy-out-prefix-2 c = search needs
+
+prefix-requires-2 : tie.Need-prefix-requires-2 Inv-loop μ-loop
+prefix-requires-2 c κs = search needs
 
 put-section-requires : tie.Need-put-section-requires Inv-loop μ-loop
-put-section-requires c κs = let s = c .before .before .before .before .before .before .before .before in
-    let g = c .before .before .before .before .loop .inv in (
-      going-room (now (s .args .old)) (now (s .args .new)) (now (s .args .out)) (c .before .before .before .before .loop .out) (c .before .before .before .before .loop .out) _ (c .before .before .before .before .loop .at) _ _ _ g (c .before .before .before .loop-test .taken) (s .pre .1 .0) (s .pre .1 .1)
-          (c .before .before .section-unchecked .ensures) (c .before .section-unchecked2 .ensures) (sym (g .pending .size)) (s .pre .0),
-      (
-        part-ordered (now (s .args .old)) _ (c .before .before .before .loop-test .taken) (s .pre .1 .0) _ (c .before .before .section-unchecked .ensures),
-        part-ordered (now (s .args .new)) _ (c .before .before .before .loop-test .taken) (s .pre .1 .1) _ (c .before .section-unchecked2 .ensures),
-      ),
-    )
+put-section-requires c κs =
+    let a = c .before .before .before .before .before .before .before .before .before .before .before .before .before .before .args in
+    let g = c .before .before .before .before .before .before .before .before .before .before .loop .inv in
+    let h = c .before .before .before .before .before .before .before .before .before .loop-test .taken in
+    let old = old-cut (c .before .before .before .before .before) in
+    let new = new-cut (c .before) in
+    (going-room (now (a .old)) (now (a .new)) _ _ _ _ _ _ g h (part-records _ _ _ _ h old) (part-records _ _ _ _ h new), (part-ordered _ _ _ _ h old, part-ordered _ _ _ _ h new))
 
 add-section : tie.Need-add-section Inv-loop μ-loop
 add-section c = search needs
@@ -42,12 +82,13 @@ loop-less : tie.Need-loop-less Inv-loop μ-loop
 loop-less c = search needs
 
 loop-again : tie.Need-loop-again Inv-loop μ-loop
-loop-again c = let s = c .before .before .before .before .before .before .before .before .before .before .before in
-    going-turn (now (s .args .old)) (now (s .args .new)) (now (s .args .out)) (c .before .before .before .before .before .before .before .loop .out) _ (c .before .before .before .before .before .before .before .loop .at) _ _ _ _ (c .before .before .before .before .before .before .before .loop .inv) (c .before .before .before .before .before .before .loop-test .taken) (s .pre .1 .0) (s .pre .1 .1)
-    (c .before .before .before .before .before .section-unchecked .ensures) (c .before .before .before .before .section-unchecked2 .ensures) (c .before .before .put-section .ensures)
+loop-again c =
+    let a = c .before .before .before .before .before .before .before .before .before .before .before .before .before .before .before .before .before .args in
+    let h = c .before .before .before .before .before .before .before .before .before .before .before .before .loop-test .taken in
+    going-turn (now (a .old)) (now (a .new)) _ _ _ _ _ _ (c .before .before .before .before .before .before .before .before .before .before .before .before .before .loop .inv) h (part-records _ _ _ _ h (old-cut (c .before .before .before .before .before .before .before .before))) (part-records _ _ _ _ h (new-cut (c .before .before .before .before))) _ _ (c .before .before .put-section .ensures)
 
 same-length : tie.Need-same-length Inv-loop μ-loop
-same-length c = c .before .loop .inv .pending .size
+same-length c = c .before .loop .inv .left .pending .size
 
 returns : tie.Need-returns Inv-loop μ-loop
 returns c = going-end _ _ _ _ _ _ (c .before .loop .inv) (omega arith)
@@ -59,8 +100,18 @@ put-sections-spec =
     Inv-loop
     μ-loop
     loop-holds
-    section-unchecked-requires
-    section-unchecked-requires-2
+    mul-suffix
+    element-copy-out-suffix
+    suffix-requires
+    mul-prefix
+    element-copy-out-prefix
+    prefix-requires
+    mul-suffix-2
+    element-copy-out-suffix-2
+    suffix-requires-2
+    mul-prefix-2
+    element-copy-out-prefix-2
+    prefix-requires-2
     put-section-requires
     add-section
     loop-less

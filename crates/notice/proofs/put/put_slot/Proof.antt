@@ -14,7 +14,10 @@ returns c = let a = c .before .before .before .before .before .args in
     rw (slot-none (a .section) (a .slot) (now (a .old)) (now (a .new)) (c .before .if1 .taken) (c .if2 .taken)) (wrote-nil _ _)
 
 put-line-requires : tie.Need-put-line-requires
-put-line-requires c κs = search needs
+put-line-requires c κs =
+    let s = c .before .before .before .before .before .before in
+    let a = s .args in
+    rw (slot-new (a .section) (a .slot) (now (a .old)) (now (a .new)) (c .before .before .if1 .taken) (c .before .if2 .left), renderAll-one) at (s .pre)
 
 same-length : tie.Need-same-length
 same-length c = search needs
@@ -24,7 +27,10 @@ returns-2 c = let a = c .before .before .before .before .before .before .before 
     rw (slot-new (a .section) (a .slot) (now (a .old)) (now (a .new)) (c .before .before .before .before .before .if1 .taken) (c .before .before .before .before .if2 .left), renderAll-one) (c .before .before .put-line .ensures)
 
 put-line-requires-2 : tie.Need-put-line-requires-2
-put-line-requires-2 c κs = search needs
+put-line-requires-2 c κs =
+    let s = c .before .before .before .before .before .before in
+    let a = s .args in
+    rw (slot-gone (a .section) (a .slot) (now (a .old)) (now (a .new)) (c .before .before .if1 .left) (c .before .if3 .taken), renderAll-one) at (s .pre)
 
 same-length-2 : tie.Need-same-length-2
 same-length-2 c = search needs
@@ -34,7 +40,10 @@ returns-3 c = let a = c .before .before .before .before .before .before .before 
     rw (slot-gone (a .section) (a .slot) (now (a .old)) (now (a .new)) (c .before .before .before .before .before .if1 .left) (c .before .before .before .before .if3 .taken), renderAll-one) (c .before .before .put-line2 .ensures)
 
 put-shared-requires : tie.Need-put-shared-requires
-put-shared-requires c κs = search needs
+put-shared-requires c κs =
+    let s = c .before .before .before .before .before .before in
+    let a = s .args in
+    rw (slot-shared (a .section) (a .slot) (now (a .old)) (now (a .new)) (c .before .before .if1 .left) (c .before .if3 .left)) at (s .pre)
 
 same-length-3 : tie.Need-same-length-3
 same-length-3 c = search needs

@@ -11,7 +11,7 @@ same-bytes-requires : tie.Need-same-bytes-requires
 same-bytes-requires c κs = search needs
 
 put-line-requires : tie.Need-put-line-requires
-put-line-requires c κs = search needs
+put-line-requires c κs = rw (sym (c .before .before .same-bytes .ensures) ∙ c .before .if1 .left, renderAll-one) at (c .before .before .before .before .before .before .pre)
 
 returns : tie.Need-returns
 unfolding renderAll

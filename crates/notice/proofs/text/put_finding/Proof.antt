@@ -10,7 +10,7 @@ slice-aggregate-put : tie.Need-slice-aggregate-put
 slice-aggregate-put c = search needs
 
 put-requires : tie.Need-put-requires
-put-requires c κs = search needs
+put-requires c κs = rw (c .before .before .enum-told .given .1) at (c .before .before .before .before .before .pre)
 
 enum-told-2 : tie.Need-enum-told-2
 enum-told-2 c = search needs
@@ -19,7 +19,7 @@ slice-aggregate-put-2 : tie.Need-slice-aggregate-put-2
 slice-aggregate-put-2 c = search needs
 
 put-requires-2 : tie.Need-put-requires-2
-put-requires-2 c κs = search needs
+put-requires-2 c κs = rw (c .before .before .enum-told2 .given .1) at (c .before .before .before .before .before .pre)
 
 enum-told-3 : tie.Need-enum-told-3
 enum-told-3 c = search needs
@@ -28,37 +28,13 @@ slice-aggregate-put-3 : tie.Need-slice-aggregate-put-3
 slice-aggregate-put-3 c = search needs
 
 put-requires-3 : tie.Need-put-requires-3
-put-requires-3 c κs = search needs
-
-enum-told-4 : tie.Need-enum-told-4
-enum-told-4 c = search needs
-
-slice-aggregate-put-4 : tie.Need-slice-aggregate-put-4
-slice-aggregate-put-4 c = search needs
-
-put-requires-4 : tie.Need-put-requires-4
-put-requires-4 c κs = search needs
-
-enum-told-5 : tie.Need-enum-told-5
-enum-told-5 c = search needs
-
-slice-aggregate-put-5 : tie.Need-slice-aggregate-put-5
-slice-aggregate-put-5 c = search needs
-
-put-requires-5 : tie.Need-put-requires-5
-put-requires-5 c κs = search needs
+put-requires-3 c κs = rw (c .before .before .enum-told3 .given .1) at (c .before .before .before .before .before .pre)
 
 enum-known-finding : tie.Need-enum-known-finding
 enum-known-finding c = search needs
 
-put-altr-one-requires : tie.Need-put-altr-one-requires
-put-altr-one-requires c κs = search needs
-
-enum-known-finding-2 : tie.Need-enum-known-finding-2
-enum-known-finding-2 c = search needs
-
-put-altr-two-requires : tie.Need-put-altr-two-requires
-put-altr-two-requires c κs = search needs
+put-change-requires : tie.Need-put-change-requires
+put-change-requires c κs = rw (c .before .before .finding .given .1) at (c .before .before .before .before .before .pre)
 
 same-length : tie.Need-same-length
 same-length c = search needs
@@ -82,25 +58,7 @@ same-length-4 : tie.Need-same-length-4
 same-length-4 c = search needs
 
 returns-4 : tie.Need-returns-4
-returns-4 c = rw (c .before .before .before .before .before .enum-told4 .given .1) (c .before .before .put4 .ensures)
-
-same-length-5 : tie.Need-same-length-5
-same-length-5 c = search needs
-
-returns-5 : tie.Need-returns-5
-returns-5 c = rw (c .before .before .before .before .before .enum-told5 .given .1) (c .before .before .put5 .ensures)
-
-same-length-6 : tie.Need-same-length-6
-same-length-6 c = search needs
-
-returns-6 : tie.Need-returns-6
-returns-6 c = rw (c .before .before .before .before .before .finding .given .1) (c .before .before .put-altr-one .ensures)
-
-same-length-7 : tie.Need-same-length-7
-same-length-7 c = search needs
-
-returns-7 : tie.Need-returns-7
-returns-7 c = rw (c .before .before .before .before .before .finding2 .given .1) (c .before .before .put-altr-two .ensures)
+returns-4 c = rw (c .before .before .before .before .before .finding .given .1) (c .before .before .put-change .ensures)
 
 pub put-finding-spec : {M : Type 1} → statement M
 put-finding-spec =
@@ -115,16 +73,8 @@ put-finding-spec =
     enum-told-3
     slice-aggregate-put-3
     put-requires-3
-    enum-told-4
-    slice-aggregate-put-4
-    put-requires-4
-    enum-told-5
-    slice-aggregate-put-5
-    put-requires-5
     enum-known-finding
-    put-altr-one-requires
-    enum-known-finding-2
-    put-altr-two-requires
+    put-change-requires
     same-length
     returns
     same-length-2
@@ -132,10 +82,4 @@ put-finding-spec =
     same-length-3
     returns-3
     same-length-4
-    returns-4
-    same-length-5
-    returns-5
-    same-length-6
-    returns-6
-    same-length-7
-    returns-7)
+    returns-4)

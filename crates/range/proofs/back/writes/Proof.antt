@@ -7,27 +7,15 @@ use native.Mathlib.Omega.{arith}
 use borrow.Author.Needs.{needs}
 use lib.ListN.{length, take, drop, getD, length-drop, take-append-drop}
 use lib.Seq.{length-take-le, take-all}
-use Rattle.lines.specs.Same.{same}
-use Rattle.lines.proofs.Compare.{same-append}
-use Rattle.range.specs.Words.{lowerValue, upperValue, lowerChain, upperChain, rangeWords, sentWords}
-use Rattle.range.proofs.Tables.{length-chain, first-chain, second-chain, sent-chains}
+use Rattle.buffer.specs.Same.{same}
+use Rattle.buffer.proofs.Compare.{same-append}
+use Rattle.range.specs.Words.{lowerValue, lowerChain, upperChain, rangeWords, sentWords}
+use Rattle.range.proofs.Tables.{length-chain, sent-chains}
+use Rattle.range.proofs.Made.{lower-made, upper-made, lower-count, upper-count}
 use Rattle.range.proofs.back.writes.Statement.{statement}
 use Rattle.range.proofs.back.writes.Tie as tie
 
--- what the call made are the two chains, of sixteen words each
 module _ (lower upper mask : ℕ) (chains : List (List ℕ)) (made : chains ≡ rangeWords lower upper mask) where
-  lower-made : getD chains 0 [] ≡ lowerChain lower mask
-  lower-made = ap (λ (cs : List (List ℕ)). getD cs 0 []) made ∙ first-chain lower upper mask
-
-  upper-made : getD chains 1 [] ≡ upperChain upper mask
-  upper-made = ap (λ (cs : List (List ℕ)). getD cs 1 []) made ∙ second-chain lower upper mask
-
-  lower-count : 16 ≡ length (getD chains 0 [])
-  lower-count = sym (ap length lower-made ∙ length-chain mask (lowerValue lower mask))
-
-  upper-count : 16 ≡ length (getD chains 1 [])
-  upper-count = sym (ap length upper-made ∙ length-chain mask (upperValue upper mask))
-
   -- both comparisons together are that of the 32 words
   compared : (words : List ℕ) (x y : Bool) → length words ≡ 32 → x ≡ same (take 16 words) (getD chains 0 [])
       → y ≡ same (take (length words - 16) (drop 16 words)) (getD chains 1 []) → x && y ≡ same words (sentWords lower upper mask)
@@ -35,7 +23,8 @@ module _ (lower upper mask : ℕ) (chains : List (List ℕ)) (made : chains ≡ 
       let first : length (take 16 words) ≡ 16 = length-take-le 16 words (omega arith) in
       let rest : take (length words - 16) (drop 16 words) ≡ drop 16 words
       = take-all (length words - 16) (drop 16 words) (simp length-drop (omega arith)) in
-      ap₂ (λ (a b : Bool). a && b) (ex ∙ ap (same (take 16 words)) lower-made) (ey ∙ ap₂ same rest upper-made)
+      ap₂ (λ (a b : Bool). a && b) (ex ∙ ap (same (take 16 words)) (lower-made lower upper mask chains made))
+      (ey ∙ ap₂ same rest (upper-made lower upper mask chains made))
       ∙ sym
       (same-append (take 16 words) (lowerChain lower mask) (drop 16 words) (upperChain upper mask)
       (first ∙ sym (length-chain mask (lowerValue lower mask))))

@@ -11,7 +11,7 @@ use Rattle.range.specs.declared.Range.{Range}
 use Rattle.range.specs.Rule.{Accepted}
 use Rattle.range_telling.specs.Reduce.{idle, reduceFrom, reduceOf, Reduces}
 use Rattle.range_telling.proofs.Halving.{reduce-turn, reduce-stop}
-use Rattle.range_telling.proofs.Theorems.{range-reduces}
+use Rattle.range_telling.proofs.Theorems.{reduces}
 use Rattle.range_telling.proofs.reduced.reduce.Statement.{statement}
 use Rattle.range_telling.proofs.reduced.reduce.Tie as tie
 
@@ -43,7 +43,7 @@ end r n e = rw e
 
 -- what is right of the reduced range is right of what equals it
 meets : (r q : Range) → q ≡ reduceOf r → (q ≡ reduceOf r) × (Accepted r → Reduces r q)
-meets r q e = (e, λ a. subst (Reduces r) (sym e) (range-reduces r a))
+meets r q e = (e, λ a. subst (Reduces r) (sym e) (reduces r a))
 
 loop-holds : tie.Need-loop-holds Inv-loop μ-loop
 unfolding reduceOf

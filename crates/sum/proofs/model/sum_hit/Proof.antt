@@ -5,70 +5,55 @@ use Rattle.sum.specs.Model.{sumHit}
 use Rattle.sum.proofs.model.sum_hit.Statement.{statement}
 use Rattle.sum.proofs.model.sum_hit.Tie as tie
 
-array-read-mid-inputs : tie.Need-array-read-mid-inputs
-array-read-mid-inputs c = search needs
+shared-slice-read-mid-inputs : tie.Need-shared-slice-read-mid-inputs
+shared-slice-read-mid-inputs c = search needs
 
-array-read-mid-inputs-2 : tie.Need-array-read-mid-inputs-2
-array-read-mid-inputs-2 c = search needs
+shared-slice-read-mid-inputs-2 : tie.Need-shared-slice-read-mid-inputs-2
+shared-slice-read-mid-inputs-2 c = search needs
 
 mid-inputs-requires : tie.Need-mid-inputs-requires
 mid-inputs-requires c κs = search needs
 
-array-read-mid-inputs-3 : tie.Need-array-read-mid-inputs-3
-array-read-mid-inputs-3 c = search needs
+shared-slice-read-mid-inputs-3 : tie.Need-shared-slice-read-mid-inputs-3
+shared-slice-read-mid-inputs-3 c = search needs
 
-array-read-mid-inputs-4 : tie.Need-array-read-mid-inputs-4
-array-read-mid-inputs-4 c = search needs
+shared-slice-read-mid-inputs-4 : tie.Need-shared-slice-read-mid-inputs-4
+shared-slice-read-mid-inputs-4 c = search needs
 
 mid-inputs-requires-2 : tie.Need-mid-inputs-requires-2
 mid-inputs-requires-2 c κs = search needs
 
-array-read-answer-at : tie.Need-array-read-answer-at
-array-read-answer-at c = search needs
+shared-slice-read-both-at : tie.Need-shared-slice-read-both-at
+shared-slice-read-both-at c = search needs
+
+both-at-requires : tie.Need-both-at-requires
+both-at-requires c κs = search needs
+
+shared-slice-read-answer-at : tie.Need-shared-slice-read-answer-at
+shared-slice-read-answer-at c = search needs
 
 answer-at-requires : tie.Need-answer-at-requires
 answer-at-requires c κs = search needs
-
-array-read-answer-at-2 : tie.Need-array-read-answer-at-2
-array-read-answer-at-2 c = search needs
-
-answer-at-requires-2 : tie.Need-answer-at-requires-2
-answer-at-requires-2 c κs = search needs
-
-array-read-answer-at-3 : tie.Need-array-read-answer-at-3
-array-read-answer-at-3 c = search needs
-
-mul-answer-at : tie.Need-mul-answer-at
-mul-answer-at c = search needs
-
-add-answer-at : tie.Need-add-answer-at
-add-answer-at c = search needs
-
-answer-at-requires-3 : tie.Need-answer-at-requires-3
-answer-at-requires-3 c κs = search needs
 
 returns : tie.Need-returns
 unfolding sumHit
 returns c =
     let mids = c .before .before in
-    rw (c .answer-at3 .ensures, mids .answer-at .ensures, c .before .answer-at2 .ensures, mids .before .before .mid-inputs .ensures .0, mids .before .mid-inputs2 .ensures .0)
+    let last = mids .before .before in
+    rw (c .answer-at .ensures, mids .both-at .ensures .0, last .before .before .before .mid-inputs .ensures .0, last .mid-inputs2 .ensures .0)
 
 pub sum-hit-spec : {M : Type 1} → statement M
 sum-hit-spec =
     tie.close
     (tie.spec
-    array-read-mid-inputs
-    array-read-mid-inputs-2
+    shared-slice-read-mid-inputs
+    shared-slice-read-mid-inputs-2
     mid-inputs-requires
-    array-read-mid-inputs-3
-    array-read-mid-inputs-4
+    shared-slice-read-mid-inputs-3
+    shared-slice-read-mid-inputs-4
     mid-inputs-requires-2
-    array-read-answer-at
+    shared-slice-read-both-at
+    both-at-requires
+    shared-slice-read-answer-at
     answer-at-requires
-    array-read-answer-at-2
-    answer-at-requires-2
-    array-read-answer-at-3
-    mul-answer-at
-    add-answer-at
-    answer-at-requires-3
     returns)

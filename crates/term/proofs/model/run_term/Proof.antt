@@ -1,24 +1,24 @@
--- `term::model::run_term` meets its contract: what the words from i on say is what all of them say.
+-- `term::model::run_term` meets its contract: what the words before i say and what is left says is what all of them say.
 -- Assumes nothing.
-use mathlib.Core.Path.{_≡_, sym, ap, _∙_}
-use Prim.Native.Nat.{ℕ, _≤_, _+_, _-_}
+use mathlib.Core.Logic.{⊎-elim}
+use mathlib.Core.Path.{_≡_, refl, sym, _∙_}
+use mathlib.Core.Bool.{_&&_}
+use Prim.Native.Nat.{_≤_, _-_}
 use native.Mathlib.Omega.{arith}
 use borrow.Author.Needs.{needs}
-use lib.ListN.{length, drop}
-use mathlib.Core.List.{List}
-use mathlib.Core.Bool.{Bool, true, false, _&&_}
+use lib.ListN.{length}
 use Rattle.term.specs.Model.{chainHit}
+use Rattle.lines.proofs.Truth.{and-first, and-second}
 use Rattle.lut.proofs.Runs.{run-needed, run-other}
-use Rattle.term.proofs.Stepping.{chain-step, chain-end}
+use Rattle.term.proofs.Stepping.{Asked, ask-next, ask-end}
 use Rattle.term.proofs.model.run_term.Statement.{statement}
 use Rattle.term.proofs.model.run_term.Tie as tie
 
 abbrev Inv-loop : tie.InvT-loop
-Inv-loop words sample i₀ i =
-    (i ≤ 4) × (length words ≡ 4) × (chainHit words sample ≡ chainHit (drop i words) sample)
+Inv-loop words sample hit₀ i₀ hit i = (i ≤ 4) × (length words ≡ 4) × Asked words sample i hit
 
 abbrev μ-loop : tie.MeasureT-loop
-μ-loop words sample i₀ i = 4 - i
+μ-loop words sample hit₀ i₀ hit i = 4 - i
 
 returns : tie.Need-returns Inv-loop μ-loop
 returns c =
@@ -26,7 +26,7 @@ returns c =
     sym (run-other 4 (a .words .now) (chainHit (a .words .now) (a .sample)) (c .if1 .taken))
 
 loop-holds : tie.Need-loop-holds Inv-loop μ-loop
-loop-holds c = search needs
+loop-holds c = (omega arith, omega arith, refl)
 
 mul-word-hit : tie.Need-mul-word-hit Inv-loop μ-loop
 mul-word-hit c = search needs
@@ -55,30 +55,31 @@ add-i c = search needs
 loop-less : tie.Need-loop-less Inv-loop μ-loop
 loop-less c = search needs
 
-abbrev words-of : tie.After-word-hit Inv-loop μ-loop → List ℕ
-words-of c = c .before .before .before .before .before .before .args .words .now
-
-abbrev sample-of : tie.After-word-hit Inv-loop μ-loop → ℕ
-sample-of c = c .before .before .before .before .before .before .args .sample
-
--- the words from i on, after the word at i was run
-turn : (c : tie.After-word-hit Inv-loop μ-loop) (b : Bool) → c .word-hit .result ≡ b
-    → chainHit (words-of c) (sample-of c) ≡ b && (chainHit (drop (c .before .before .before .loop .i + 1) (words-of c)) (sample-of c))
-turn c b e =
-    let at-loop = c .before .before .before .loop in
-    at-loop .inv .2 ∙ chain-step (words-of c) (sample-of c) (at-loop .i) (at-loop .inv .1) (omega arith) ∙ ap (λ (x : Bool). x && (chainHit (drop (at-loop .i + 1) (words-of c)) (sample-of c))) (sym (c .word-hit .ensures) ∙ e)
-
 loop-again : tie.Need-loop-again Inv-loop μ-loop
-loop-again c = (omega arith, c .before .before .before .before .loop .inv .1, turn (c .before) true (c .if2 .taken))
+loop-again c =
+    let looped = c .before .before .before .before .loop in
+    let args = c .before .before .before .before .before .before .before .args in
+    let here = c .before .word-hit .result in
+    let next : c .if2 .hit ≡ looped .hit && here
+    = ⊎-elim (λ w. and-second _ here _ _ (w .0 .taken) refl (w .1)) (λ w. and-first _ here _ (w .1 ∙ w .0 .left) (w .1)) (c .if2 .came) in (
+      omega arith,
+      looped .inv .1,
+      rw next
+          (ask-next (args .words .now) (args .sample) (looped .i) (looped .hit) here (looped .inv .1) (omega arith) (looped .inv .2)
+          (c .before .word-hit .ensures)),
+    )
+
+hit-or-miss-requires : tie.Need-hit-or-miss-requires Inv-loop μ-loop
+hit-or-miss-requires c κs = search needs
 
 returns-2 : tie.Need-returns-2 Inv-loop μ-loop
-returns-2 c = sym (run-needed 4 (words-of (c .before)) (chainHit (words-of (c .before)) (sample-of (c .before))) false (c .before .before .before .before .loop .inv .1) (turn (c .before) false (c .if2 .left)))
-
-returns-3 : tie.Need-returns-3 Inv-loop μ-loop
-returns-3 c =
-    let at-loop = c .before .loop in
-    let a = c .before .before .before .before .args in
-    sym (run-needed 4 (a .words .now) (chainHit (a .words .now) (a .sample)) true (at-loop .inv .1) (at-loop .inv .2 ∙ chain-end _ _ (at-loop .i) (at-loop .inv .1) (omega arith)))
+returns-2 c =
+    let looped = c .before .before .loop in
+    let args = c .before .before .before .before .before .args in
+    c .hit-or-miss .ensures
+    ∙ sym
+    (run-needed 4 (args .words .now) (chainHit (args .words .now) (args .sample)) (looped .hit) (looped .inv .1)
+    (ask-end (args .words .now) (args .sample) (looped .i) (looped .hit) (looped .inv .1) (omega arith) (looped .inv .2)))
 
 pub run-term-spec : {M : Type 1} → statement M
 run-term-spec =
@@ -98,5 +99,5 @@ run-term-spec =
     add-i
     loop-less
     loop-again
-    returns-2
-    returns-3)
+    hit-or-miss-requires
+    returns-2)

@@ -1,4 +1,4 @@
--- `term::rule::term_hit` meets its contract: 01's formula is the plain rule. Assumes nothing.
+-- `term::rule::term_hit` meets its contract: the formula of XOR and AND is the plain rule [P2]. Assumes nothing.
 use Rattle.term.proofs.PlainRule.{term-formula}
 use Rattle.term.proofs.rule.term_hit.Statement.{statement}
 use Rattle.term.proofs.rule.term_hit.Tie as tie

@@ -1,51 +1,70 @@
--- `term::words::nibble_table` meets its contract: after n turns the table is that of the addresses below n.
+-- `term::words::nibble_table` meets its contract: the table is a product over the lines.
 -- Assumes nothing.
-use mathlib.Core.Path.{_≡_, refl, ap, _∙_}
-use Prim.Native.Nat.{_≤_, _-_}
+use Prim.Native.Nat.{_%_}
 use native.Mathlib.Omega.{arith}
-use mathlib.Core.Logic.{⊎-elim}
-use lib.Dec.{lit≤}
 use borrow.Author.Needs.{needs}
-use Rattle.lut.specs.Table.{tableOf}
-use Rattle.term.specs.Words.{addressHit, nibbleTable}
-use borrow.Author.Tests.{eq-eqb, ne-eqb}
-use Rattle.lut.proofs.Tables.{bit-set, bit-room, bit-clear}
+use Rattle.term.proofs.Hits.{nibble-lt}
+use Rattle.term.proofs.Product.{highs-small, lows-small, lower-fits, upper-fits, table-product}
 use Rattle.term.proofs.words.nibble_table.Statement.{statement}
 use Rattle.term.proofs.words.nibble_table.Tie as tie
 
-abbrev Inv-loop : tie.InvT-loop
-Inv-loop target mask t m table₀ n₀ table n = (n ≤ 16) × (table ≡ tableOf (addressHit t m) n)
+sub-zeros : tie.Need-sub-zeros
+sub-zeros c = highs-small (c .args .target) (c .args .mask)
 
-abbrev μ-loop : tie.MeasureT-loop
-μ-loop target mask t m table₀ n₀ table n = 16 - n
+sub-ones : tie.Need-sub-ones
+sub-ones c = lows-small (c .args .target) (c .args .mask)
 
-loop-holds : tie.Need-loop-holds Inv-loop μ-loop
-unfolding tableOf
-loop-holds c = (lit≤ tt, refl)
+mul-low : tie.Need-mul-low
+mul-low c = search needs
 
-shl-table : tie.Need-shl-table Inv-loop μ-loop
-shl-table c = search needs
+add-low : tie.Need-add-low
+add-low c = search needs
 
-add-table : tie.Need-add-table Inv-loop μ-loop
-add-table c = record { fits = bit-room (addressHit _ _) _ _ (omega arith) (c .before .before .loop .inv .1) }
+mul-low-2 : tie.Need-mul-low-2
+mul-low-2 c = search needs
 
-add-n : tie.Need-add-n Inv-loop μ-loop
-add-n c = search needs
+add-low-2 : tie.Need-add-low-2
+add-low-2 c = search needs
 
-loop-less : tie.Need-loop-less Inv-loop μ-loop
-loop-less c = search needs
+mul-low-3 : tie.Need-mul-low-3
+mul-low-3 c = omega (arith, lower-fits (c .args .target) (c .args .mask))
 
-loop-again : tie.Need-loop-again Inv-loop μ-loop
-loop-again c = ⊎-elim
-    (λ w. (omega arith, w .1 ∙ bit-set (addressHit _ _) (c .before .before .loop .n) (c .before .before .loop .table) (omega arith) (c .before .before .loop .inv .1) (eq-eqb _ 0 (w .0 .taken))))
-    (λ w. (omega arith, w .1 ∙ bit-clear (addressHit _ _) (c .before .before .loop .n) (c .before .before .loop .table) (omega arith) (c .before .before .loop .inv .1) (ne-eqb _ 0 (w .0 .left))))
-    (c .if1 .came)
+mul-high : tie.Need-mul-high
+mul-high c = search needs
 
-returns : tie.Need-returns Inv-loop μ-loop
-unfolding nibbleTable
-returns c = c .before .loop .inv .1 ∙ ap (tableOf (addressHit _ _)) (omega arith)
+add-high : tie.Need-add-high
+add-high c = search needs
+
+mul-high-2 : tie.Need-mul-high-2
+mul-high-2 c = search needs
+
+add-high-2 : tie.Need-add-high-2
+add-high-2 c = search needs
+
+mul-high-3 : tie.Need-mul-high-3
+mul-high-3 c = omega (arith, upper-fits (c .args .target) (c .args .mask))
+
+mul-result : tie.Need-mul-result
+mul-result c = omega (arith, table-product (c .args .target) (c .args .mask), nibble-lt (c .args .target % 16) (c .args .mask % 16))
+
+returns : tie.Need-returns
+returns c = table-product (c .args .target) (c .args .mask)
 
 pub nibble-table-spec : {M : Type 1} → statement M
 nibble-table-spec =
     tie.close
-    (tie.spec Inv-loop μ-loop loop-holds shl-table add-table add-n loop-less loop-again returns)
+    (tie.spec
+    sub-zeros
+    sub-ones
+    mul-low
+    add-low
+    mul-low-2
+    add-low-2
+    mul-low-3
+    mul-high
+    add-high
+    mul-high-2
+    add-high-2
+    mul-high-3
+    mul-result
+    returns)

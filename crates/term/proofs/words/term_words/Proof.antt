@@ -1,7 +1,8 @@
 -- `term::words::term_words` meets its contract: the four calls give the four words.
 -- Assumes nothing.
 use native.Mathlib.Nat.{div-one}
-use Rattle.term.specs.Words.{termWords, wordsDown}
+use Rattle.lut.specs.Table.{down}
+use Rattle.term.specs.Words.{termWords}
 use borrow.Author.Needs.{needs}
 use Rattle.term.proofs.words.term_words.Statement.{statement}
 use Rattle.term.proofs.words.term_words.Tie as tie
@@ -19,7 +20,7 @@ chain-word-requires-4 : tie.Need-chain-word-requires-4
 chain-word-requires-4 c κs = search needs
 
 returns : tie.Need-returns
-unfolding termWords wordsDown
+unfolding termWords down
 returns c = simp div-one (cc)
 
 pub term-words-spec : {M : Type 1} → statement M

@@ -1,0 +1,122 @@
+// What the program says. Each complaint is one line, and starts with the name of the file that it is about.
+use crate::DONE;
+use crate::REFUSED;
+use crate::TROUBLE;
+use crate::file::is_standard;
+
+// Longer than any complaint without the name.
+const LINE: usize = 512;
+
+// The sheet that argument `arg` names was refused.
+pub fn refused_sheet(arg: usize, sheet: &[u8], number: u8, place: usize, err: i32) -> u8 {
+    let mut line = [0u8; LINE];
+    let length = faults::put_sheet_refusal(&mut line, 0, sheet, number, place);
+    refused(arg, buffer::prefix(&line, length), err)
+}
+
+// The stream that argument `arg` names was refused.
+pub fn refused_stream(arg: usize, stream: &[u8], number: u8, place: usize, err: i32) -> u8 {
+    let mut line = [0u8; LINE];
+    let length = stream_faults::put_stream_refusal(&mut line, 0, stream, number, place);
+    refused(arg, buffer::prefix(&line, length), err)
+}
+
+fn refused(arg: usize, line: &[u8], err: i32) -> u8 {
+    complain(arg, line, err);
+    REFUSED
+}
+
+// One line: the name of the file that argument `arg` names, and what is wrong with it.
+fn complain(arg: usize, line: &[u8], err: i32) {
+    name(arg, err);
+    io::write_all(err, b": ");
+    io::write_all(err, line);
+    io::write_all(err, b"\n");
+}
+
+// The file that argument `arg` names could not be read.
+pub fn failed(arg: usize, error: i32, err: i32) -> u8 {
+    complain_of(arg, error, b"cannot be read", err)
+}
+
+// The file that argument `arg` names could not be written.
+pub fn not_written(arg: usize, error: i32, err: i32) -> u8 {
+    complain_of(arg, error, b"cannot be written", err)
+}
+
+// What the system said, where that is plain, and otherwise `what`.
+fn complain_of(arg: usize, error: i32, what: &[u8], err: i32) -> u8 {
+    if error == libc::ENOENT {
+        complain(arg, b"no such file", err);
+    } else if error == libc::EISDIR {
+        complain(arg, b"is a directory", err);
+    } else if error == libc::EACCES {
+        complain(arg, b"permission denied", err);
+    } else if error == libc::ENAMETOOLONG {
+        complain(arg, b"name too long", err);
+    } else {
+        complain(arg, what, err);
+    }
+    TROUBLE
+}
+
+// The file that argument `arg` names is there and is not one that a result may take the place of.
+pub fn not_regular(arg: usize, err: i32) -> u8 {
+    complain(arg, b"not a regular file that can be written", err);
+    TROUBLE
+}
+
+// Argument `arg` should be a section's number.
+pub fn no_number(arg: usize, err: i32) -> u8 {
+    complain(arg, b"not a section's number", err);
+    TROUBLE
+}
+
+// Both files are standard input, which can be read once.
+pub fn twice(err: i32) -> u8 {
+    io::write_all(err, b"standard input: cannot be both sheets\n");
+    TROUBLE
+}
+
+// The result is bytes, and would go to a terminal.
+pub fn terminal(err: i32) -> u8 {
+    io::write_all(
+        err,
+        b"standard output: is a terminal, and the result is bytes; -o FILE keeps them, --force shows them\n",
+    );
+    TROUBLE
+}
+
+// The argument itself, or its number where it is empty or too long to be a name; bytes that would break the line are question marks.
+pub fn name(arg: usize, fd: i32) -> bool {
+    if is_standard(arg) {
+        return io::write_all(fd, b"standard input");
+    }
+    let mut path = io::buffer();
+    let length = os::arg(arg, &mut path);
+    if length == 0 {
+        return io::write_all(fd, b"argument ") && io::print_decimal(fd, arg as u64);
+    }
+    write_plain(buffer::prefix(&path, length), fd)
+}
+
+fn write_plain(bytes: &[u8], fd: i32) -> bool {
+    let mut copy = io::buffer();
+    buffer::put_bytes(&mut copy, bytes);
+    text::make_plain(&mut copy, 0xff);
+    io::write_all(fd, buffer::prefix(&copy, bytes.len()))
+}
+
+// The sheet that argument `arg` names is accepted.
+pub fn accepted(arg: usize, out: i32, err: i32) -> u8 {
+    written(name(arg, out) && io::write_all(out, b": accepted\n"), err)
+}
+
+// Whether all went to standard output; if not, says so on `err`.
+pub fn written(is_written: bool, err: i32) -> u8 {
+    if is_written {
+        return DONE;
+    }
+    io::write_all(err, b"standard output: cannot be written\n");
+    TROUBLE
+}

@@ -1,0 +1,45 @@
+-- The words of a description one by one, and the model's walk over words: what the loops need. Assumes nothing.
+use Prim.Native.Nat.{ℕ, suc, _+_, _-_, _*_, _≤_, _<_}
+use mathlib.Core.Path.{_≡_, sym, ap, _∙_}
+use mathlib.Core.Bool.{Bool, true, false, _||_}
+use mathlib.Core.List.{List}
+use native.Mathlib.Numerals.{add-one}
+use lib.Dec.{lit<}
+use lib.ListN.{length, getD, drop, length-drop, drop-of-length-le}
+use lib.Seq.{drop-cons}
+use Rattle.lut.proofs.Halves.{word-lt}
+use Rattle.lut.proofs.Down.{length-down, down-lt}
+use Rattle.edge.specs.Words.{pairTable, wordAt, edgeWords}
+use Rattle.edge.specs.Model.{wordHit, wordsHit}
+use Rattle.edge.proofs.Pair.{pair-lt}
+
+-- an edge has eight words
+pub words-length : (r f n : ℕ) → length (edgeWords r f n) ≡ 8
+words-length r f n = length-down (wordAt r f n) 8
+
+-- each word has 32 bits
+pub words-lt : (r f n i : ℕ) → getD (edgeWords r f n) i 0 < 4294967296
+words-lt r f n = down-lt (wordAt r f n) 4294967296 (lit< tt) (λ k.
+    word-lt (pairTable (2 * k + 1) r f n) (pairTable (2 * k) r f n) (pair-lt (2 * k + 1) r f n) (pair-lt (2 * k) r f n)) 8
+
+-- the model's first word, and the rest
+hit-step : (ws : List ℕ) (e l i k : ℕ) → i < length ws → k ≡ length ws - suc i
+    → wordsHit (drop i ws) e l ≡ wordHit k (getD ws i 0) e l || wordsHit (drop (i + 1) ws) e l
+unfolding wordsHit
+hit-step ws e l i k h hk =
+    let q : k ≡ length (drop (suc i) ws) = hk ∙ sym (length-drop (suc i) ws) in
+    rw (drop-cons ws i 0 h, add-one i, q)
+
+-- the walk stands at word i, and what is left of the words decides
+module _ (ws : List ℕ) (e l i k : ℕ) (h : i < length ws) (hk : k ≡ length ws - suc i)
+    (left : wordsHit ws e l ≡ wordsHit (drop i ws) e l) where
+  pub walk-hit : wordHit k (getD ws i 0) e l ≡ true → wordsHit ws e l ≡ true
+  walk-hit t = left ∙ hit-step ws e l i k h hk ∙ ap (λ (b : Bool). b || wordsHit (drop (i + 1) ws) e l) t
+
+  pub walk-on : wordHit k (getD ws i 0) e l ≡ false → wordsHit ws e l ≡ wordsHit (drop (i + 1) ws) e l
+  walk-on t = left ∙ hit-step ws e l i k h hk ∙ ap (λ (b : Bool). b || wordsHit (drop (i + 1) ws) e l) t
+
+-- past the last word nothing hits
+pub walk-end : (ws : List ℕ) (e l i : ℕ) → length ws ≤ i → wordsHit (drop i ws) e l ≡ false
+unfolding wordsHit
+walk-end ws e l i h = rw (drop-of-length-le ws h)

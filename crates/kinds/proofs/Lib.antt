@@ -1,0 +1,4 @@
+pub mod Rows
+pub mod Ways
+pub mod Addresses
+pub mod Places

@@ -1,0 +1,265 @@
+-- The table of sections: the only place that knows how many kinds of record there are, and what each has. A section is
+-- known by its number; what one has and another has not is a field of its row.
+use Prim.Native.Nat.{ℕ, zero, suc, _+_, _*_}
+use mathlib.Core.Bool.{Bool, false, cond}
+use mathlib.Core.List.{List, [], _∷_}
+use lib.Dec.{eqb, ltb}
+use lib.ListN.{length, getD, take, drop, replicate}
+use Rattle.term.specs.Description as term
+use Rattle.term.specs.Rule as term-rule
+use Rattle.range.specs.Description as range
+use Rattle.range.specs.Rule as range-rule
+use Rattle.range_telling.specs.Description as range-telling
+use Rattle.edge.specs.Description as edge
+use Rattle.edge.specs.Rule as edge-rule
+use Rattle.sum.specs.Description as sum
+use Rattle.sum.specs.Operation as sum-rule
+use Rattle.sum.specs.Model as sum-model
+use Rattle.sum.specs.Address.{sumAddress}
+use Rattle.lut.specs.declared.Input.{Input}
+use Rattle.kinds.specs.declared.Row.{Row}
+use Rattle.kinds.specs.declared.Change.{Change}
+use Rattle.kinds.specs.declared.Change.the-variants.{Oper}
+use Rattle.kinds.specs.Change.{told}
+
+-- what each kind has, a row of the table of sections [S13]
+pub record Kind : Type 0 where
+  -- the four letters of the notice
+  pub name : List ℕ
+  -- the most records, and the bytes of a description
+  pub most : ℕ
+  pub size : ℕ
+  -- the first fault of a description, 0 if it has none
+  pub fault : List ℕ → ℕ
+  -- the address of a slot; how many chains, at neighbouring addresses, and how many words each
+  pub address : ℕ → ℕ
+  pub chains : ℕ
+  pub each : ℕ
+  -- a description's words, the description that words are read as ([]: none), and what is then left of a description
+  pub words : List ℕ → List ℕ
+  pub back : List ℕ → List ℕ
+  pub cut : List ℕ → List ℕ
+  -- when a description hits, and what is found of two whose bytes differ
+  pub hit : List ℕ → Input → Bool
+  pub change : List ℕ → List ℕ → Change
+
+-- the number of the section that holds terms [S1]
+abbrev pub TERMS : ℕ
+TERMS = 0
+
+-- the number of the section that holds ranges [S1]
+abbrev pub RANGES : ℕ
+RANGES = 1
+
+-- the number of the section that holds edges [S1]
+abbrev pub EDGES : ℕ
+EDGES = 2
+
+-- the number of the section that holds sums [S1]
+abbrev pub SUMS : ℕ
+SUMS = 3
+
+-- terms: TERM, at most 10, address 0x20 + slot, one chain of four words [S1, W4, N3, G3]
+abbrev pub termKind : Kind
+termKind =
+    record {
+      name = 84 ∷ 69 ∷ 82 ∷ 77 ∷ [];
+      most = 10;
+      size = term.size;
+      fault = term.fault;
+      address = λ slot. 0x20 + slot;
+      chains = 1;
+      each = 4;
+      words = term.words;
+      back = term.back;
+      cut = term.cut;
+      hit = λ d. term-rule.hit (term.fromBytes d);
+      change = λ old new. told (term.telling old new);
+    }
+
+-- ranges: RANG, at most 2, address 0x30 + 2 * slot, two chains of sixteen words [S1, W6, N3]
+abbrev pub rangeKind : Kind
+rangeKind =
+    record {
+      name = 82 ∷ 65 ∷ 78 ∷ 71 ∷ [];
+      most = 2;
+      size = range.size;
+      fault = range.fault;
+      address = λ slot. 0x30 + 2 * slot;
+      chains = 2;
+      each = 16;
+      words = range.words;
+      back = range.back;
+      cut = λ d. d;
+      hit = λ d. range-rule.hit (range.fromBytes d);
+      change = λ old new. told (range-telling.telling old new);
+    }
+
+-- edges: EDGE, at most 2, address 0x34 + slot, one chain of eight words [S1, W11, N3]
+abbrev pub edgeKind : Kind
+edgeKind =
+    record {
+      name = 69 ∷ 68 ∷ 71 ∷ 69 ∷ [];
+      most = 2;
+      size = edge.size;
+      fault = edge.fault;
+      address = λ slot. 0x34 + slot;
+      chains = 1;
+      each = 8;
+      words = edge.words;
+      back = edge.back;
+      cut = λ d. d;
+      hit = λ d. edge-rule.hit (edge.fromBytes d);
+      change = λ old new. told (edge.telling old new);
+    }
+
+-- sums: SUMS, at most 48, one chain of six words; their change is always OPER [S1, W14, N3, N6]
+abbrev pub sumKind : Kind
+sumKind =
+    record {
+      name = 83 ∷ 85 ∷ 77 ∷ 83 ∷ [];
+      most = 48;
+      size = sum.size;
+      fault = sum.fault;
+      address = sumAddress;
+      chains = 1;
+      each = 6;
+      words = sum.words;
+      back = sum.back;
+      cut = λ d. d;
+      hit = λ d. sum-model.hit (sum.fromBytes d);
+      change = λ old new. Oper;
+    }
+
+-- a section that no sheet has: no records, no words, never a hit [S13]
+abbrev pub noKind : Kind
+noKind =
+    record {
+      name = 0 ∷ 0 ∷ 0 ∷ 0 ∷ [];
+      most = 0;
+      size = 0;
+      fault = λ d. 0;
+      address = λ slot. 0;
+      chains = 0;
+      each = 0;
+      words = λ d. [];
+      back = λ ws. [];
+      cut = λ d. d;
+      hit = λ d i. false;
+      change = λ old new. Oper;
+    }
+
+-- THE TABLE, by section number [S1, S13]
+abbrev pub kinds : List Kind
+kinds = termKind ∷ rangeKind ∷ edgeKind ∷ sumKind ∷ []
+
+-- how many sections a sheet has [S1]
+abbrev pub sections : ℕ
+sections = length kinds
+
+-- the row of section k; past the table that of a section that no sheet has [S13, B4]
+unfoldable pub kindOf : ℕ → Kind
+kindOf k = getD kinds k noKind
+
+-- ---- its columns
+
+-- the four letters of section k's name in the notice [N3]
+unfoldable pub nameOf : ℕ → List ℕ
+nameOf k = kindOf k .name
+
+-- the most records of section k [S1]
+unfoldable pub mostOf : ℕ → ℕ
+mostOf k = kindOf k .most
+
+-- the bytes of a description of section k [S1, G1]
+unfoldable pub descriptionSize : ℕ → ℕ
+descriptionSize k = kindOf k .size
+
+-- the first fault of a description of section k, by refusal number; 0 is none [F6, F7, F8, F9, F10, O1]
+unfoldable pub descriptionFault : ℕ → List ℕ → ℕ
+descriptionFault k d = kindOf k .fault d
+
+-- the address of the first chain of the item in a slot of section k [W4, W6, W11, W14]
+unfoldable pub addressOf : (k slot : ℕ) → ℕ
+addressOf k slot = kindOf k .address slot
+
+-- how many chains an item of section k has: two for a range, one for the others [G13, W6]
+unfoldable pub chainCount : ℕ → ℕ
+chainCount k = kindOf k .chains
+
+-- how many words each chain of section k has [W4, W6, W11, W14]
+unfoldable pub chainLength : ℕ → ℕ
+chainLength k = kindOf k .each
+
+-- a description's chain words, first sent first (*chain words* is the buyer's term) [G4]
+unfoldable pub wordsOf : (k : ℕ) (d : List ℕ) → List ℕ
+wordsOf k d = kindOf k .words d
+
+-- computed: the description that words are read as, no bytes if none; theorems exactly and refused [B6, B7, C5, F16]
+unfoldable pub descriptionRead : (k : ℕ) (ws : List ℕ) → List ℕ
+descriptionRead k ws = kindOf k .back ws
+
+-- what is left of a description when its words are read back: a term's target is cut to its mask [C7]
+unfoldable pub cutDescription : (k : ℕ) (d : List ℕ) → List ℕ
+cutDescription k d = kindOf k .cut d
+
+-- when a description of section k hits on an input [G5, P1, P5, P8, M8]
+unfoldable pub hitOf : (k : ℕ) (d : List ℕ) → Input → Bool
+hitOf k d = kindOf k .hit d
+
+-- computed: what is found of two descriptions whose bytes differ; what it means is theorem change-says [B6, N6, N10]
+unfoldable pub changeOf : (k : ℕ) (old new : List ℕ) → Change
+changeOf k old new = kindOf k .change old new
+
+-- the same by meaning: which descriptions of section k are accepted (*accepted* is the buyer's term) [G2]
+abbrev pub Accepted : (k : ℕ) (d : List ℕ) → Type 0
+Accepted zero d = term-rule.Accepted (term.fromBytes d)
+Accepted (suc zero) d = range-rule.Accepted (range.fromBytes d)
+Accepted (suc (suc zero)) d = edge-rule.Accepted (edge.fromBytes d)
+Accepted (suc (suc (suc zero))) d = sum-rule.Accepted (sum.fromBytes d)
+Accepted (suc (suc (suc (suc k)))) d = ⊥
+
+-- ---- what follows from them
+
+-- the numbers of section k, side by side [S13]
+abbrev pub rowOf : ℕ → Row
+rowOf k = record { name = nameOf k; most = mostOf k; size = descriptionSize k; chains = chainCount k; each = chainLength k }
+
+-- how many words each chain of section k's items has [W4, W6, W11, W14]
+unfoldable pub lengthsOf : (k : ℕ) → List ℕ
+lengthsOf k = replicate (chainCount k) (chainLength k)
+
+-- words cut into chains of so many words each [W1, W6]
+unfoldable pub pieces : (lengths words : List ℕ) → List (List ℕ)
+pieces [] ws = []
+pieces (n ∷ ns) ws = take n ws ∷ pieces ns (drop n ws)
+
+-- the chains of a description in sending order; of a range the lower one is the first [G4, G13]
+unfoldable pub chainsOf : (k : ℕ) (d : List ℕ) → List (List ℕ)
+chainsOf k d = pieces (lengthsOf k) (wordsOf k d)
+
+-- ---- the order of sending
+
+-- the sections in the order in which they are sent; theorem address-later has it that addresses rise [W17]
+abbrev pub sendingOrder : List ℕ
+sendingOrder = TERMS ∷ RANGES ∷ EDGES ∷ SUMS ∷ []
+
+-- ---- the way back from an address to the section and the slot whose item is sent there
+
+-- computed: of n slots of section k from `slot` on, the first with the address; the one behind them if none [B6, C2]
+unfoldable pub slotFrom : (n slot k address : ℕ) → ℕ
+slotFrom zero slot k address = slot
+slotFrom (suc n) slot k address = cond (eqb (addressOf k slot) address) slot (slotFrom n (slot + 1) k address)
+
+-- computed: the slot of section k whose item begins at the address; theorem slot-of-address [B6, C2]
+unfoldable pub slotAt : (k address : ℕ) → ℕ
+slotAt k address = slotFrom (mostOf k) 0 k address
+
+-- computed: of n sections from k on, the first that has the address; the one behind them if none [B6, C2]
+unfoldable pub sectionFrom : (n k address : ℕ) → ℕ
+sectionFrom zero k address = k
+sectionFrom (suc n) k address = cond (ltb (slotAt k address) (mostOf k)) k (sectionFrom n (k + 1) address)
+
+-- computed: the section whose item begins at the address, past the last if none; theorem section-of-slot [B6, C2]
+unfoldable pub sectionAt : (address : ℕ) → ℕ
+sectionAt address = sectionFrom sections 0 address

@@ -1,0 +1,74 @@
+// What each kind says of its descriptions.
+ghost use mathlib.Core.Path.{_≡_};
+ghost use Rattle.buffer.specs.Room.{bytes, Delivered};
+ghost use Rattle.kinds.specs.Change.{told};
+ghost use Rattle.kinds.specs.Table.{descriptionFault, wordsOf, descriptionRead, changeOf};
+use crate::Change;
+use crate::EDGES;
+use crate::RANGES;
+use crate::SUMS;
+use crate::TERMS;
+use buffer::Outcome;
+use lut::Telling;
+
+// The first fault of a description in a section, 0 if it has none.
+pub fn fault(section: usize, bytes: &[u8]) -> u8
+    ensures { λ r. ⌜ r ≡ descriptionFault section (now (bytes .entry)) ⌝ }
+{
+    match section {
+        TERMS => 0,
+        RANGES => range::fault(bytes),
+        EDGES => edge::fault(bytes),
+        SUMS => sum::fault(bytes),
+        _ => 0,
+    }
+}
+
+// The words of a description.
+pub fn put_words(out: &mut [u32], section: usize, d: &[u8]) -> Outcome
+    ensures { λ r. ⌜ Delivered (bytes (wordsOf section (now (d .entry)))) (now (out .entry)) r (now (out .exit)) ⌝ }
+{
+    match section {
+        TERMS => term::put_words(out, d),
+        RANGES => range::put_words(out, d),
+        EDGES => edge::put_words(out, d),
+        SUMS => sum::put_words(out, d),
+        _ => Outcome::Done(0),
+    }
+}
+
+// The description that words are read as; nothing for words that no accepted description writes.
+pub fn put_back(out: &mut [u8], section: usize, words: &[u32]) -> Outcome
+    ensures { λ r. ⌜ Delivered (bytes (descriptionRead section (now (words .entry)))) (now (out .entry)) r (now (out .exit)) ⌝ }
+{
+    match section {
+        TERMS => term::put_back(out, words),
+        RANGES => range::put_back(out, words),
+        EDGES => edge::put_back(out, words),
+        SUMS => sum::put_back(out, words),
+        _ => Outcome::Done(0),
+    }
+}
+
+// ALTR with the input that tells two descriptions apart, WORD if none does.
+fn told_change(telling: Telling) -> Change
+    ensures { λ r. ⌜ r ≡ told telling ⌝ }
+{
+    match telling {
+        Telling::Alike => Change::Word,
+        Telling::Apart(input) => Change::Altr(input),
+    }
+}
+
+// What is found of two descriptions whose bytes differ.
+pub fn change_of(section: usize, old: &[u8], new: &[u8]) -> Change
+    ensures { λ r. ⌜ r ≡ changeOf section (now (old .entry)) (now (new .entry)) ⌝ }
+{
+    match section {
+        TERMS => told_change(term::telling_of(old, new)),
+        RANGES => told_change(range_telling::telling_of(old, new)),
+        EDGES => told_change(edge::telling_of(old, new)),
+        SUMS => Change::Oper,
+        _ => Change::Oper,
+    }
+}

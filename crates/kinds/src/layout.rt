@@ -1,0 +1,89 @@
+// The numbers of each section: zeros for one that no sheet has.
+ghost use mathlib.Core.Path.{_≡_};
+ghost use Rattle.kinds.specs.Table.{rowOf, chainCount, chainLength, addressOf};
+use crate::EDGES;
+use crate::RANGES;
+use crate::Row;
+use crate::SUMS;
+use crate::TERMS;
+
+const TERM: Row = Row {
+    name: *b"TERM",
+    most: 10,
+    size: 8,
+    chains: 1,
+    each: 4,
+};
+
+const RANGE: Row = Row {
+    name: *b"RANG",
+    most: 2,
+    size: 12,
+    chains: 2,
+    each: 16,
+};
+
+const EDGE: Row = Row {
+    name: *b"EDGE",
+    most: 2,
+    size: 12,
+    chains: 1,
+    each: 8,
+};
+
+const SUM: Row = Row {
+    name: *b"SUMS",
+    most: 48,
+    size: 11,
+    chains: 1,
+    each: 6,
+};
+
+const NONE: Row = Row {
+    name: [0; 4],
+    most: 0,
+    size: 0,
+    chains: 0,
+    each: 0,
+};
+
+pub fn row_of(section: usize) -> Row
+    ensures { λ r. ⌜ r ≡ rowOf section ⌝ }
+{
+    match section {
+        TERMS => TERM,
+        RANGES => RANGE,
+        EDGES => EDGE,
+        SUMS => SUM,
+        _ => NONE,
+    }
+}
+
+// How many chains an item has, at neighbouring addresses.
+pub fn chain_count(section: usize) -> usize
+    ensures { λ r. ⌜ r ≡ chainCount section ⌝ }
+{
+    let row = row_of(section);
+    row.chains
+}
+
+// How many words each of its chains has.
+pub fn chain_length(section: usize) -> usize
+    ensures { λ r. ⌜ r ≡ chainLength section ⌝ }
+{
+    let row = row_of(section);
+    row.each
+}
+
+// The address of a slot.
+pub fn address(section: usize, slot: u8) -> u32
+    ensures { λ r. ⌜ r ≡ addressOf section slot ⌝ }
+{
+    match section {
+        TERMS => 0x20 + slot as u32,
+        RANGES => 0x30 + 2 * slot as u32,
+        EDGES => 0x34 + slot as u32,
+        SUMS => sum::sum_address(slot),
+        _ => 0,
+    }
+}

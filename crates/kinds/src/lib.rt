@@ -1,0 +1,62 @@
+// The table of sections: the only place that knows how many kinds of record there are. Each question has one answer for each kind.
+// Promises: each call equals its column of the table in specs/, for any section number and any bytes.
+// Rests on: the kinds, each in its crate (term, range with range_telling, edge, sum).
+mod back;
+mod describe;
+mod layout;
+
+pub use back::place_at;
+pub use describe::change_of;
+pub use describe::fault;
+pub use describe::put_back;
+pub use describe::put_words;
+pub use layout::address;
+pub use layout::chain_count;
+pub use layout::chain_length;
+pub use layout::row_of;
+
+// The sections by number.
+pub const TERMS: usize = 0;
+
+pub const RANGES: usize = 1;
+
+pub const EDGES: usize = 2;
+
+pub const SUMS: usize = 3;
+
+pub const SECTIONS: usize = 4;
+
+// The sections in the order in which they are sent: by rising address.
+pub const SENDING_ORDER: [usize; SECTIONS] = [TERMS, RANGES, EDGES, SUMS];
+
+// The most words that a description has.
+pub const MOST_WORDS: usize = 32;
+
+// The numbers of a section.
+pub struct Row {
+    // The four letters of the notice.
+    pub name: [u8; 4],
+    // The most records; slots are below this.
+    pub most: usize,
+    // How many bytes a description has.
+    pub size: usize,
+    // How many chains an item has, at neighbouring addresses, and how many words each of them.
+    pub chains: usize,
+    pub each: usize,
+}
+
+// What an address starts.
+pub struct Place {
+    pub section: usize,
+    pub slot: u8,
+}
+
+// What is found of two descriptions whose bytes differ.
+pub enum Change {
+    // Other operations.
+    Oper,
+    // No input tells the two apart.
+    Word,
+    // This input tells them apart.
+    Altr(lut::Input),
+}

@@ -1,0 +1,33 @@
+-- What holds of every kind, whatever it is asked with. Assumes nothing.
+use mathlib.Core.Bool.{Bool}
+use mathlib.Core.Logic.{_↔_}
+use mathlib.Core.Path.{_≡_, refl, subst}
+use Prim.Native.Nat.{ℕ, _^_, _<_}
+use Rattle.lut.specs.declared.Input.{Input}
+use Rattle.lut.specs.declared.Input.the-variants.{Nothing, Sample, Samples, Sources}
+use Rattle.lut.specs.declared.Telling.{Telling}
+use Rattle.lut.specs.declared.Telling.the-variants.{Alike, Apart}
+use Rattle.lut.specs.Input.{Fits, onSample, onSamples}
+use Rattle.lut.specs.Telling.{HitAlike, Says}
+
+-- descriptions that are asked with a sample hit alike on every input if they do on every sample
+pub alike-on-samples : (f g : ℕ → Bool) → ((s : ℕ) → s < 2 ^ 32 → f s ≡ g s) → HitAlike (onSample f) (onSample g)
+alike-on-samples f g h Nothing i = refl
+alike-on-samples f g h (Sample s) i = h s i
+alike-on-samples f g h (Samples earlier later) i = refl
+alike-on-samples f g h (Sources s) i = refl
+
+-- and those that are asked with two
+pub alike-on-pairs : (f g : ℕ → ℕ → Bool) → ((e l : ℕ) → e < 2 ^ 32 → l < 2 ^ 32 → f e l ≡ g e l) → HitAlike (onSamples f) (onSamples g)
+alike-on-pairs f g h Nothing i = refl
+alike-on-pairs f g h (Sample s) i = refl
+alike-on-pairs f g h (Samples earlier later) i = h earlier later (i .0) (i .1)
+alike-on-pairs f g h (Sources s) i = refl
+
+-- the answer is Alike exactly where no input tells the two apart
+pub alike-iff : (f g : Input → Bool) (t : Telling) → Says f g t → (t ≡ Alike) ↔ HitAlike f g
+alike-iff f g t says = (λ e. subst (Says f g) e says, λ alike. go t says alike)
+  where
+    go : (t : Telling) → Says f g t → HitAlike f g → t ≡ Alike
+    go Alike says alike = refl
+    go (Apart i) says alike = absurd (says .tells (alike i (says .fits)))

@@ -1,0 +1,22 @@
+//! How a refusal is said, and that it can be handed on as an error.
+use std::error::Error;
+use voltamar::{check, notice, Refusal};
+
+#[test]
+fn refusals_are_errors() {
+    fn judged(sheet: &[u8]) -> Result<(), Box<dyn Error>> {
+        check(sheet)?;
+        notice(sheet, &[0; 5], &mut [])?;
+        Ok(())
+    }
+    assert_eq!(judged(&[0, 3]).unwrap_err().to_string(), "refused 2 at 1: count above the section's most");
+    assert_eq!(judged(&[0; 4]).unwrap_err().to_string(), "new sheet: refused 11 at 4: bytes left over");
+}
+
+#[test]
+fn every_number_has_a_meaning() {
+    for number in 1..=17 {
+        assert_ne!(Refusal { number, place: 0 }.meaning(), "not a refusal's number");
+    }
+    assert_eq!(Refusal { number: 18, place: 0 }.meaning(), "not a refusal's number");
+}

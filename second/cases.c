@@ -1,0 +1,488 @@
+/* Makes many sheets that the rules accept and, with words.c, what is sent for each. README.md says how the file is
+ * laid out. The random numbers have a fixed seed: the output is the same each time and everywhere. */
+#include "words.h"
+
+#include <stdio.h>
+#include <stdlib.h>
+#include <string.h>
+
+#define TERMS 10
+#define RANGES 2
+#define EDGES 2
+#define SUMS 48
+#define LONGEST_SHEET 1218
+#define END_MARK 0xFFFFu
+
+struct term { int slot; uint8_t label[8]; uint32_t target, mask; };
+struct range { int slot; uint8_t label[8]; uint32_t lower, upper, mask; };
+struct edge { int slot; uint8_t label[8]; uint32_t rise, fall, neither; };
+struct sum { int slot; uint8_t label[8]; uint8_t op[11]; };
+
+struct setup {
+    int terms, ranges, edges, sums;
+    struct term term[TERMS];
+    struct range range[RANGES];
+    struct edge edge[EDGES];
+    struct sum sum[SUMS];
+};
+
+/* ---- numbers ---- */
+
+static uint64_t state = 0x566F6C74616D6172u;
+
+/* xorshift64*, the upper half */
+static uint32_t random32(void)
+{
+    state ^= state >> 12;
+    state ^= state << 25;
+    state ^= state >> 27;
+    return (uint32_t)((state * 0x2545F4914F6CDD1Du) >> 32);
+}
+
+static uint32_t random_below(uint32_t n)
+{
+    return random32() % n;
+}
+
+/* one in n times */
+static int now_and_then(uint32_t n)
+{
+    return random_below(n) == 0;
+}
+
+/* all shapes of masks: none, one line, few, half, many, all, a run of neighbours */
+static uint32_t random_mask(void)
+{
+    uint32_t from;
+    switch (random_below(8)) {
+    case 0: return 0;
+    case 1: return (uint32_t)1 << random_below(32);
+    case 2: return random32() & random32() & random32();
+    case 3: return random32() | random32() | random32();
+    case 4: return 0xFFFFFFFF;
+    case 5:
+        from = random_below(32);
+        return (0xFFFFFFFF >> random_below(32 - from)) & (0xFFFFFFFF << from);
+    default: return random32();
+    }
+}
+
+static uint32_t biggest_below_mask(uint32_t mask)
+{
+    uint32_t biggest = 0;
+    for (; mask != 0; mask &= mask - 1)
+        biggest = biggest << 1 | 1;
+    return biggest;
+}
+
+/* ---- records ---- */
+
+static void fail(const char *what)
+{
+    fprintf(stderr, "second: %s\n", what);
+    exit(1);
+}
+
+static void random_label(uint8_t *label)
+{
+    for (int i = 0; i < 8; i++)
+        label[i] = (uint8_t)(0x20 + random_below(0x5F));
+}
+
+static void add_term(struct setup *s, int slot, uint32_t target, uint32_t mask)
+{
+    if (s->terms == TERMS || slot >= TERMS || (s->terms > 0 && s->term[s->terms - 1].slot >= slot))
+        fail("a term that no sheet holds");
+    struct term *t = &s->term[s->terms++];
+    t->slot = slot;
+    random_label(t->label);
+    t->target = target;
+    t->mask = mask;
+}
+
+static void add_range(struct setup *s, int slot, uint32_t lower, uint32_t upper, uint32_t mask)
+{
+    if (s->ranges == RANGES || slot >= RANGES || (s->ranges > 0 && s->range[s->ranges - 1].slot >= slot) ||
+        lower == 0 || lower > upper || upper > biggest_below_mask(mask))
+        fail("a range that no sheet holds");
+    struct range *r = &s->range[s->ranges++];
+    r->slot = slot;
+    random_label(r->label);
+    r->lower = lower;
+    r->upper = upper;
+    r->mask = mask;
+}
+
+static void add_edge(struct setup *s, int slot, uint32_t rise, uint32_t fall, uint32_t neither)
+{
+    if (s->edges == EDGES || slot >= EDGES || (s->edges > 0 && s->edge[s->edges - 1].slot >= slot) ||
+        (neither & (rise | fall)) != 0)
+        fail("an edge that no sheet holds");
+    struct edge *e = &s->edge[s->edges++];
+    e->slot = slot;
+    random_label(e->label);
+    e->rise = rise;
+    e->fall = fall;
+    e->neither = neither;
+}
+
+/* operation p of the sum is (start + p * step) % 10 */
+static void add_sum(struct setup *s, int slot, uint32_t start, uint32_t step)
+{
+    if (s->sums == SUMS || slot >= SUMS || (s->sums > 0 && s->sum[s->sums - 1].slot >= slot))
+        fail("a sum that no sheet holds");
+    struct sum *m = &s->sum[s->sums++];
+    m->slot = slot;
+    random_label(m->label);
+    for (uint32_t p = 0; p < 11; p++)
+        m->op[p] = (uint8_t)((start + p * step) % 10);
+}
+
+static void add_random_term(struct setup *s, int slot)
+{
+    uint32_t target = random32(), mask = random_mask();
+    add_term(s, slot, target, mask);
+}
+
+static void add_random_range(struct setup *s, int slot)
+{
+    uint32_t mask = random_mask(), biggest, lower, upper;
+    while (mask == 0)
+        mask = random_mask();
+    biggest = biggest_below_mask(mask);
+    lower = 1 + random_below(biggest);
+    if (now_and_then(4))
+        lower = 1;
+    upper = lower + (biggest == lower ? 0 : random_below(biggest - lower + 1));
+    if (now_and_then(4))
+        upper = biggest;
+    else if (now_and_then(6))
+        upper = lower;
+    add_range(s, slot, lower, upper, mask);
+}
+
+static void add_random_edge(struct setup *s, int slot)
+{
+    uint32_t neither = random_mask(), rise = random_mask() & ~neither, fall = random_mask() & ~neither;
+    add_edge(s, slot, rise, fall, neither);
+}
+
+static void add_random_sum(struct setup *s, int slot)
+{
+    add_sum(s, slot, 0, 0);
+    for (int p = 0; p < 11; p++)
+        s->sum[s->sums - 1].op[p] = (uint8_t)random_below(10);
+}
+
+/* ---- the sheet, and what is sent for it ---- */
+
+static uint8_t sheet[LONGEST_SHEET];
+static size_t sheet_length;
+
+static void put_byte(uint32_t byte)
+{
+    if (sheet_length == LONGEST_SHEET)
+        fail("a sheet longer than the longest");
+    sheet[sheet_length++] = (uint8_t)byte;
+}
+
+static void put_number(uint32_t n)
+{
+    for (int i = 0; i < 4; i++, n >>= 8)
+        put_byte(n & 0xFF);
+}
+
+static void put_head(int slot, const uint8_t *label)
+{
+    put_byte((uint32_t)slot);
+    for (int i = 0; i < 8; i++)
+        put_byte(label[i]);
+}
+
+static void make_sheet(const struct setup *s)
+{
+    sheet_length = 0;
+    put_byte((uint32_t)s->terms);
+    for (const struct term *t = s->term; t < s->term + s->terms; t++) {
+        put_head(t->slot, t->label);
+        put_number(t->target);
+        put_number(t->mask);
+    }
+    put_byte((uint32_t)s->ranges);
+    for (const struct range *r = s->range; r < s->range + s->ranges; r++) {
+        put_head(r->slot, r->label);
+        put_number(r->lower);
+        put_number(r->upper);
+        put_number(r->mask);
+    }
+    put_byte((uint32_t)s->edges);
+    for (const struct edge *e = s->edge; e < s->edge + s->edges; e++) {
+        put_head(e->slot, e->label);
+        put_number(e->rise);
+        put_number(e->fall);
+        put_number(e->neither);
+    }
+    put_byte((uint32_t)s->sums);
+    for (const struct sum *m = s->sum; m < s->sum + s->sums; m++) {
+        put_head(m->slot, m->label);
+        for (int p = 0; p < 11; p++)
+            put_byte(m->op[p]);
+    }
+}
+
+/* by rising address: 20.. terms, 30.. ranges, 34.. edges, 40.. sums */
+static void send(const struct setup *s)
+{
+    begin_stream();
+    for (const struct term *t = s->term; t < s->term + s->terms; t++)
+        send_term(t->slot, t->target, t->mask);
+    for (const struct range *r = s->range; r < s->range + s->ranges; r++)
+        send_range(r->slot, r->lower, r->upper, r->mask);
+    for (const struct edge *e = s->edge; e < s->edge + s->edges; e++)
+        send_edge(e->slot, e->rise, e->fall, e->neither);
+    for (const struct sum *m = s->sum; m < s->sum + s->sums; m++)
+        send_sum(m->slot, m->op);
+}
+
+static FILE *file;
+
+static void write_bytes(const uint8_t *bytes, size_t length)
+{
+    if (fwrite(bytes, 1, length, file) != length)
+        fail("the file takes no more");
+}
+
+static void write_length(size_t length)
+{
+    uint8_t two[2] = {(uint8_t)(length & 0xFF), (uint8_t)(length >> 8)};
+    write_bytes(two, 2);
+}
+
+static void write_case(const struct setup *s)
+{
+    make_sheet(s);
+    send(s);
+    write_length(sheet_length);
+    write_bytes(sheet, sheet_length);
+    write_length(sent_length);
+    write_bytes(sent, sent_length);
+}
+
+/* ---- the cases ---- */
+
+static const struct setup nothing;
+
+/* Each slot alone; every pair of nibbles (target, mask) at every one of the eight tables; every line alone. */
+static void term_cases(void)
+{
+    struct setup s;
+    for (int slot = 0; slot < TERMS; slot++) {
+        s = nothing;
+        add_term(&s, slot, 5, 0xF);
+        write_case(&s);
+    }
+    s = nothing;
+    for (uint32_t n = 0; n < 256; n++) {
+        uint32_t target = 0, mask = 0;
+        for (uint32_t table = 0; table < 8; table++) {
+            uint32_t both = (n + 37 * table) % 256;
+            target |= (both & 0xF) << (4 * table);
+            mask |= (both >> 4) << (4 * table);
+        }
+        add_term(&s, s.terms, target, mask);
+        if (s.terms == TERMS || n == 255) {
+            write_case(&s);
+            s = nothing;
+        }
+    }
+    for (uint32_t line = 0; line < 32; line++) {
+        uint32_t one = (uint32_t)1 << line;
+        add_term(&s, s.terms, 0, one);
+        add_term(&s, s.terms, one, one);
+        if (s.terms == TERMS || line == 31) {
+            write_case(&s);
+            s = nothing;
+        }
+    }
+}
+
+static void two_ranges(struct setup *s, uint32_t lower, uint32_t upper, uint32_t mask)
+{
+    add_range(s, s->ranges, lower, upper, mask);
+    if (s->ranges == RANGES) {
+        write_case(s);
+        *s = nothing;
+    }
+}
+
+/* Each slot alone; every range over four neighbours; every line alone; every width at its bounds; scattered masks. */
+static void range_cases(void)
+{
+    static const uint32_t scattered[] = {0x8A80, 0x55555555, 0xAAAAAAAA, 0x80000001, 0xF000000F, 0x7FFFFFFE};
+    struct setup s;
+    for (int slot = 0; slot < RANGES; slot++) {
+        s = nothing;
+        add_range(&s, slot, 3, 9, 0xF);
+        write_case(&s);
+    }
+    s = nothing;
+    for (uint32_t upper = 1; upper < 16; upper++)
+        for (uint32_t lower = 1; lower <= upper; lower++)
+            two_ranges(&s, lower, upper, (uint32_t)0xF << (upper + lower) % 29);
+    for (uint32_t line = 0; line < 32; line++)
+        two_ranges(&s, 1, 1, (uint32_t)1 << line);
+    for (uint32_t width = 2; width <= 32; width++) {
+        uint32_t biggest = 0xFFFFFFFF >> (32 - width), mask = biggest << random_below(33 - width);
+        two_ranges(&s, 1, biggest, mask);
+        two_ranges(&s, biggest, biggest, mask);
+        two_ranges(&s, 1, 1, mask);
+        two_ranges(&s, biggest / 2, biggest / 2 + 1, mask);
+    }
+    for (size_t i = 0; i < sizeof scattered / sizeof *scattered; i++) {
+        uint32_t biggest = biggest_below_mask(scattered[i]);
+        two_ranges(&s, 1, biggest, scattered[i]);
+        two_ranges(&s, biggest / 3 + 1, biggest - biggest / 3, scattered[i]);
+    }
+    if (s.ranges != 0)
+        write_case(&s);
+}
+
+static void two_edges(struct setup *s, uint32_t rise, uint32_t fall, uint32_t neither)
+{
+    add_edge(s, s->edges, rise, fall, neither);
+    if (s->edges == EDGES) {
+        write_case(s);
+        *s = nothing;
+    }
+}
+
+/* Each slot alone; nothing asked and each event on all lines; every event on every line alone; then the twenty-five
+ * pairs of wishes that two lines may have, at every one of the sixteen tables. */
+static void edge_cases(void)
+{
+    struct setup s;
+    for (int slot = 0; slot < EDGES; slot++) {
+        s = nothing;
+        add_edge(&s, slot, 1, 0x80000000, 0x00010000);
+        write_case(&s);
+    }
+    s = nothing;
+    two_edges(&s, 0, 0, 0);
+    two_edges(&s, 0xFFFFFFFF, 0, 0);
+    two_edges(&s, 0, 0xFFFFFFFF, 0);
+    two_edges(&s, 0, 0, 0xFFFFFFFF);
+    two_edges(&s, 0xFFFFFFFF, 0xFFFFFFFF, 0);
+    two_edges(&s, 0x55555555, 0, 0xAAAAAAAA);
+    for (uint32_t line = 0; line < 32; line++) {
+        uint32_t one = (uint32_t)1 << line;
+        two_edges(&s, one, 0, 0);
+        two_edges(&s, 0, one, 0);
+        two_edges(&s, 0, 0, one);
+        two_edges(&s, one, one, 0);
+    }
+    for (uint32_t n = 0; n < 25; n++) {
+        uint32_t rise = 0, fall = 0, neither = 0;
+        for (uint32_t line = 0; line < 32; line++) {
+            /* a wish: 0 nothing, 1 rise, 2 fall, 3 rise and fall, 4 neither */
+            uint32_t both = (n + 7 * (line / 2)) % 25, wish = line % 2 == 0 ? both % 5 : both / 5;
+            rise |= (wish & 1) << line;
+            fall |= (wish >> 1 & 1) << line;
+            neither |= (wish >> 2 & 1) << line;
+        }
+        two_edges(&s, rise, fall, neither);
+    }
+    if (s.edges != 0)
+        write_case(&s);
+}
+
+/* Each slot alone, each with its own operations; then each operation at each of the eleven places. */
+static void sum_cases(void)
+{
+    struct setup s;
+    for (int slot = 0; slot < SUMS; slot++) {
+        s = nothing;
+        add_sum(&s, slot, (uint32_t)slot, 3);
+        write_case(&s);
+    }
+    for (uint32_t step = 0; step < 2; step++) {
+        s = nothing;
+        for (int slot = 0; slot < 10; slot++)
+            add_sum(&s, 4 * slot + (int)step, (uint32_t)slot, step);
+        write_case(&s);
+    }
+}
+
+/* Every slot taken, every label of the given byte; the masks all of the given value. */
+static void full_case(uint8_t label, uint32_t mask)
+{
+    struct setup s = nothing;
+    for (int i = 0; i < TERMS; i++) {
+        add_term(&s, i, 0x01234567u * (uint32_t)(i + 1), mask);
+        memset(s.term[i].label, label, 8);
+    }
+    for (int i = 0; i < RANGES; i++) {
+        add_range(&s, i, 1, 0xFFFFFFFF - (uint32_t)i, 0xFFFFFFFF);
+        memset(s.range[i].label, label, 8);
+    }
+    for (int i = 0; i < EDGES; i++) {
+        add_edge(&s, i, mask, mask, ~mask);
+        memset(s.edge[i].label, label, 8);
+    }
+    for (int i = 0; i < SUMS; i++) {
+        add_sum(&s, i, (uint32_t)i, (uint32_t)i / 10);
+        memset(s.sum[i].label, label, 8);
+    }
+    write_case(&s);
+}
+
+/* Each slot is taken `taken` times in four. */
+static void random_case(uint32_t taken)
+{
+    struct setup s = nothing;
+    for (int i = 0; i < TERMS; i++)
+        if (random_below(4) < taken)
+            add_random_term(&s, i);
+    for (int i = 0; i < RANGES; i++)
+        if (random_below(4) < taken)
+            add_random_range(&s, i);
+    for (int i = 0; i < EDGES; i++)
+        if (random_below(4) < taken)
+            add_random_edge(&s, i);
+    for (int i = 0; i < SUMS; i++)
+        if (random_below(4) < taken)
+            add_random_sum(&s, i);
+    write_case(&s);
+}
+
+int main(int count, char **names)
+{
+    if (count > 2) {
+        fputs("usage: second [FILE]\n", stderr);
+        return 2;
+    }
+    file = count == 2 ? fopen(names[1], "wb") : stdout;
+    if (file == NULL)
+        fail("the file does not open");
+
+    write_case(&nothing);
+    term_cases();
+    range_cases();
+    edge_cases();
+    sum_cases();
+    full_case(0x20, 0);
+    full_case(0x7E, 0xFFFFFFFF);
+    full_case(0x41, 0x0F0F0F0F);
+    for (int i = 0; i < 40; i++)
+        random_case(1);
+    for (int i = 0; i < 40; i++)
+        random_case(2);
+    for (int i = 0; i < 40; i++)
+        random_case(3);
+    for (int i = 0; i < 40; i++)
+        random_case(4);
+    write_length(END_MARK);
+
+    if (fclose(file) != 0)
+        fail("the file takes no more");
+    return 0;
+}
