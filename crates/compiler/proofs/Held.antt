@@ -12,8 +12,9 @@ use Rattle.compiler.specs.Items.{addressOf, lengthsOf, chainsOf, itemSiz
 use Rattle.compiler.proofs.Joined.{chainsFrom, item}
 use Rattle.compiler.specs.Stream.{streamOf}
 use Rattle.kinds.specs.Table.{sendingOrder}
-use Rattle.compiler.proofs.Joined.{items, sent, stream-sent}
+use Rattle.compiler.proofs.Joined.{items, item-joined, sent, stream-sent}
 use Rattle.compiler.specs.Chains.{chainWordsOf, wordsRead}
+use Rattle.compiler.specs.Sent.{SentAt}
 use Rattle.compiler.proofs.ItemLaws.{chains-lengths, words-fit, item-length}
 use Rattle.kinds.proofs.Addresses.{placeOf, place-below, place-sent}
 
@@ -50,13 +51,6 @@ unfolding sent
 sent-append [] ys p = refl
 sent-append (k ∷ xs) ys p = rw (sent-append xs ys p) (sym (append-assoc (items k (getD p k [])) (sent xs p) (sent ys p)))
 
--- the item of record r of section k stands in a stream at a place, and there its chain words are read
-pub record SentAt (stream : List ℕ) (k : ℕ) (r : List ℕ) : Type 0 where
-  pub place : ℕ
-  pub within : place + itemSize k ≤ length stream
-  pub there : take (itemSize k) (drop place stream) ≡ item k r
-  pub words : wordsRead (lengthsOf k) (drop place stream) ≡ chainWordsOf k (descriptionOf r)
-
 sent-behind : (before stream after : List ℕ) (k : ℕ) (r : List ℕ) → stream ≡ before ++ (item k r ++ after) → SentAt stream k r
 sent-behind before stream after k r e =
     let rest : drop (length before) stream ≡ item k r ++ after = rw e (drop-append-seam before (item k r ++ after)) in
@@ -64,7 +58,7 @@ sent-behind before stream after k r e =
       place = length before;
       within =
           rw e (omega (arith, length-append before (item k r ++ after), length-append (item k r) after, item-length k r));
-      there = rw rest (take-at (item k r) after (itemSize k) (item-length k r));
+      there = rw rest (take-at (item k r) after (itemSize k) (item-length k r) ∙ item-joined k r);
       words = rw rest (item-read k r after);
     }
 

@@ -40,12 +40,13 @@ use Rattle.kinds.specs.Table.{TERMS, RANGES, EDGES, SUMS, sections, kindOf, mos
 use Rattle.kinds.proofs.Ways.{chains-flat}
 use Rattle.compiler.specs.Items.{lengthsOf, sizeOf, itemSize}
 use Rattle.compiler.specs.Stream.{streamOf, compiled}
-use Rattle.compiler.specs.Chains.{Loaded, sheetLoads, chainWordsOf, wordsRead}
+use Rattle.compiler.specs.Chains.{Loaded, sheetLoads, chainWordsOf}
 use Rattle.compiler.proofs.Joined.{items, sent, stream-sent}
 use Rattle.kinds.proofs.Addresses.{sent-known}
 use Rattle.compiler.proofs.StreamLaws.{items-length, part-most}
 use Rattle.compiler.proofs.Rising.{stream-climbs}
-use Rattle.compiler.proofs.Held.{SentAt, record-sent}
+use Rattle.compiler.specs.Sent.{recordOf, SentAt, streamWords}
+use Rattle.compiler.proofs.Held.{record-sent}
 
 -- ---- what the call does
 
@@ -149,14 +150,6 @@ sum-hits d a sources =
     ap (λ (ws : List ℕ). runSum ws sources) (chains-flat SUMS d) ∙ sum.run-hits (sum-kind.fromBytes d) (description-accepted SUMS (lit< tt) d a) sources
 
 -- ---- the same of the words that stand in a sheet's stream
-
--- record i of section k of a sheet
-abbrev pub recordOf : (s : List ℕ) (k i : ℕ) → List ℕ
-recordOf s k i = getD (getD (parse s) k []) i []
-
--- the words that are read at the place in the stream where a record's item stands
-abbrev pub streamWords : (s : List ℕ) (k i : ℕ) → SentAt (streamOf (parse s)) k (recordOf s k i) → List ℕ
-streamWords s k i there = wordsRead (lengthsOf k) (drop (there .place) (streamOf (parse s)))
 
 -- each record's item stands in the stream, with its description's chain words [D2.1, G13]
 pub every-record-sent : (s : List ℕ) (k : ℕ) → k < sections → (i : ℕ) → i < length (getD (parse s) k []) → SentAt (streamOf (parse s)) k (recordOf s k i)

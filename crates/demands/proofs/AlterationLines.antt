@@ -144,7 +144,7 @@ module _ (old new : List ℕ) (bo : Bytes old) (bn : Bytes new) (ao : verdict ol
   finding-shows k slot (Changed Word) hk i = tt
   finding-shows k slot (Changed (Altr input)) hk i = line-shows-one-that-does k slot input hk i .fits
 
-  all-lines-valid : AllValid (noticeLines old new)
+  pub all-lines-valid : AllValid (noticeLines old new)
   all-lines-valid =
       each-valid (noticeLines old new)
       (λ l i.

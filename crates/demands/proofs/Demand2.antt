@@ -26,7 +26,8 @@ use Rattle.edge.specs.Rule.{edgeHit}
 use Rattle.edge.specs.Model.{runEdge}
 use Rattle.compiler.specs.Stream.{streamOf, compiled}
 use Rattle.compiler.proofs.Theorems as compiler
-use Rattle.compiler.proofs.Held.{SentAt}
+use Rattle.compiler.specs.Sent.{SentAt}
+use Rattle.compiler.specs.Sent as sent
 use Rattle.reader.specs.Judging.{streamVerdict}
 use Rattle.reader.specs.Back.{sheetIn, readBack}
 use Rattle.reader.specs.Blanked.{blanked}
@@ -45,29 +46,29 @@ accepted-sheet-is-compiled = compiler.accepted-written
 
 -- and each record's item stands in them with its description's chain words [D2.1]
 pub every-record-is-sent : (sheet : List ℕ) (k : ℕ) → k < sections → (i : ℕ) → i < length (getD (parse sheet) k [])
-    → SentAt (streamOf (parse sheet)) k (compiler.recordOf sheet k i)
+    → SentAt (streamOf (parse sheet)) k (sent.recordOf sheet k i)
 every-record-is-sent = compiler.every-record-sent
 
 -- of the words that stand in the stream, for record i of the section [D2.2, D2.3, D2.4]
 module _ (sheet : List ℕ) (b : Bytes sheet) (ok : verdict sheet ≡ Accepted) (i : ℕ) where
   -- a term's words, run in the model, hit on a sample exactly when the plain rule says hit [D2.2]
-  pub pattern-words-hit : (there : SentAt (streamOf (parse sheet)) TERMS (compiler.recordOf sheet TERMS i)) (sample : ℕ)
-      → let d = descriptionOf (compiler.recordOf sheet TERMS i) in
-      runTerm (compiler.streamWords sheet TERMS i there) sample ≡ hitOrMiss (termHit (fieldOf d 0) (fieldOf d 1) sample)
+  pub pattern-words-hit : (there : SentAt (streamOf (parse sheet)) TERMS (sent.recordOf sheet TERMS i)) (sample : ℕ)
+      → let d = descriptionOf (sent.recordOf sheet TERMS i) in
+      runTerm (sent.streamWords sheet TERMS i there) sample ≡ hitOrMiss (termHit (fieldOf d 0) (fieldOf d 1) sample)
   unfolding hitOf kindOf
   pattern-words-hit = compiler.sheet-term-hits sheet b ok i
 
   -- a range's words likewise [D2.3]
-  pub range-words-hit : i < length (getD (parse sheet) RANGES []) → (there : SentAt (streamOf (parse sheet)) RANGES (compiler.recordOf sheet RANGES i)) (sample : ℕ)
-      → let d = descriptionOf (compiler.recordOf sheet RANGES i) in
-      runRange (compiler.streamWords sheet RANGES i there) sample ≡ hitOrMiss (rangeHit (fieldOf d 0) (fieldOf d 1) (fieldOf d 2) sample)
+  pub range-words-hit : i < length (getD (parse sheet) RANGES []) → (there : SentAt (streamOf (parse sheet)) RANGES (sent.recordOf sheet RANGES i)) (sample : ℕ)
+      → let d = descriptionOf (sent.recordOf sheet RANGES i) in
+      runRange (sent.streamWords sheet RANGES i there) sample ≡ hitOrMiss (rangeHit (fieldOf d 0) (fieldOf d 1) (fieldOf d 2) sample)
   unfolding hitOf kindOf
   range-words-hit = compiler.sheet-range-hits sheet b ok i
 
   -- an edge's words likewise, on an earlier and a later sample [D2.4]
-  pub edge-words-hit : (there : SentAt (streamOf (parse sheet)) EDGES (compiler.recordOf sheet EDGES i)) (earlier later : ℕ)
-      → let d = descriptionOf (compiler.recordOf sheet EDGES i) in
-      runEdge (compiler.streamWords sheet EDGES i there) earlier later ≡ hitOrMiss (edgeHit (fieldOf d 0) (fieldOf d 1) (fieldOf d 2) earlier later)
+  pub edge-words-hit : (there : SentAt (streamOf (parse sheet)) EDGES (sent.recordOf sheet EDGES i)) (earlier later : ℕ)
+      → let d = descriptionOf (sent.recordOf sheet EDGES i) in
+      runEdge (sent.streamWords sheet EDGES i there) earlier later ≡ hitOrMiss (edgeHit (fieldOf d 0) (fieldOf d 1) (fieldOf d 2) earlier later)
   unfolding hitOf kindOf
   edge-words-hit = compiler.sheet-edge-hits sheet b ok i
 

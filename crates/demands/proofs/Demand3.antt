@@ -2,13 +2,14 @@
 -- and a notice are lists of bytes; the chain words of a description are what the load commands carry that the compiler
 -- writes for it. Assumes nothing.
 use Prim.Native.Nat.{ℕ, _≤_, _<_}
-use mathlib.Core.Path.{_≡_}
-use mathlib.Core.List.{List, [], List·Memᴰ}
+use mathlib.Core.Path.{_≡_, sym, ap, _∙_}
+use mathlib.Core.List.{List, [], map, List·Memᴰ}
 use mathlib.Core.Logic.{_↔_}
-use borrow.Author.Tests.{le-leb}
-use lib.ListN.{length, getD, take, drop}
+use native.Mathlib.Omega.{arith}
+use lib.ListN.{length, getD, drop}
 use lib.Seq.{take-append-seam}
 use Rattle.lut.specs.declared.Input.{Input}
+use Rattle.lut.specs.Input.{Fits}
 use Rattle.lut.specs.Telling.{HitAlike, TellsApart, NoneLess}
 use Rattle.buffer.specs.Bytes.{Bytes}
 use Rattle.buffer.specs.declared.Verdict.the-variants.{Accepted}
@@ -16,21 +17,43 @@ use Rattle.range.specs.Description.{fromBytes}
 use Rattle.range_telling.specs.Matter.{DroppedWords}
 use Rattle.kinds.specs.Table.{TERMS, RANGES, EDGES, SUMS, sections, hitOf}
 use Rattle.kinds.specs.declared.Change.the-variants.{Altr}
+use Rattle.records.specs.Sections.{descriptionOf}
 use Rattle.sheet.specs.Reading.{verdict}
-use Rattle.sheet.specs.Parsed.{AcceptedDescription}
+use Rattle.sheet.specs.Parsed.{parse, AcceptedDescription}
+use Rattle.sheet.proofs.Descriptions.{description-known}
+use Rattle.sheet.proofs.Theorems.{section-count, section-record}
 use Rattle.compiler.specs.Chains.{chainWordsOf}
+use Rattle.compiler.specs.Stream.{streamOf}
+use Rattle.compiler.specs.Sent.{SentAt}
+use Rattle.compiler.specs.Sent as sent
 use Rattle.notice.specs.declared.Line.{Line}
+use Rattle.notice.specs.declared.Finding.{Finding}
 use Rattle.notice.specs.declared.Finding.the-variants.{New, Gone, Changed}
 use Rattle.notice.specs.declared.Noticed.{Noticed}
 use Rattle.notice.specs.declared.Noticed.the-variants.{Done}
 use Rattle.notice.specs.Findings.{line}
+use Rattle.notice.specs.Text.{render}
 use Rattle.notice.specs.Notice.{noticeLines, noticeText, NoticeGiven}
 use Rattle.notice.specs.Shared.{recordOf, Has, Shared, descriptionAt}
 use Rattle.demands.specs.Apart.{SomeInputTells}
+use Rattle.demands.specs.Written.{linesIn, written, Stands, AlterationIn}
 use Rattle.demands.proofs.EqualWords as words
-use Rattle.demands.proofs.AlterationLines.{AlterationLine}
+use Rattle.demands.proofs.NoticeBytes.{Shows}
+use Rattle.demands.proofs.Written.{lines-rendered, text-iff}
+use Rattle.demands.proofs.Sizes.{room-for-every-notice}
 use Rattle.demands.proofs.AlterationLines as lines
 use Rattle.demands.proofs.NoticeLists as lists
+
+-- a description's chain words are those that stand in the stream of a sheet that has it, where its item stands [G4]
+pub chain-words-are-those-sent : (k : ℕ) (d : List ℕ) (a : AcceptedDescription k d)
+    (there : SentAt (streamOf (parse (a .sheet))) k (sent.recordOf (a .sheet) k (a .place)))
+    → sent.streamWords (a .sheet) k (a .place) there ≡ chainWordsOf k d
+chain-words-are-those-sent k d a there =
+    let hk = description-known k d a in
+    let l : a .place < length (getD (parse (a .sheet)) k []) = rw (section-count (a .sheet) k hk (a .accepted)) at (a .within) in
+    there .words
+    ∙ ap (λ (r : List ℕ). chainWordsOf k (descriptionOf r)) (sym (section-record (a .sheet) k hk (a .accepted) (a .place) l))
+    ∙ ap (chainWordsOf k) (a .has)
 
 -- of any two accepted descriptions of one kind
 
@@ -56,45 +79,69 @@ pub dropped-words-iff-alike : (d e : List ℕ) → AcceptedDescription RANGES d 
     → DroppedWords (fromBytes d) ws → DroppedWords (fromBytes e) vs → (ws ≡ vs) ↔ HitAlike (hitOf RANGES d) (hitOf RANGES e)
 dropped-words-iff-alike = words.dropped-alike
 
--- of any two accepted sheets
-module _ (old new : List ℕ) (bo : Bytes old) (bn : Bytes new) (ao : verdict old ≡ Accepted) (an : verdict new ≡ Accepted) where
-  -- given room the notice is written whole, and its length is answered. Its bytes determine its lines
-  -- (`bytes-determine-the-lines`)
-  pub notice-is-written : (out out′ : List ℕ) (r : Noticed) → length (noticeText old new) ≤ length out → NoticeGiven old new out r out′
-      → (r ≡ Done (length (noticeText old new))) × (take (length (noticeText old new)) out′ ≡ noticeText old new)
-  notice-is-written out out′ r fits g =
+-- of any two accepted sheets, and the bytes that the call wrote, given room for the longest notice
+module _ (old new : List ℕ) (bo : Bytes old) (bn : Bytes new) (ao : verdict old ≡ Accepted) (an : verdict new ≡ Accepted)
+    (out : List ℕ) (r : Noticed) (out′ : List ℕ) (enough : 1756 ≤ length out) (given : NoticeGiven old new out r out′) where
+  -- the notice is written whole, and its length is answered [N1, A9]
+  pub notice-is-written : (r ≡ Done (length (noticeText old new))) × (written r out′ ≡ noticeText old new)
+  notice-is-written =
       let text = noticeText old new in
-      let done : r ≡ Done (length text) = rw (ao, an, le-leb _ _ fits) at (g .answer) in
-      let left = rw done at (g .left) in
-      (done, rw left (take-append-seam text (drop (length text) out)))
+      let done : r ≡ Done (length text) = room-for-every-notice old new out r out′ enough given ao an in
+      let left = rw done at (given .left) in
+      (done, rw (done, left) (take-append-seam text (drop (length text) out)))
+
+  -- split at its line feeds it is its lines [N1]
+  pub lines-are-written : linesIn (written r out′) ≡ map render (noticeLines old new)
+  unfolding noticeText
+  lines-are-written =
+      ap linesIn (notice-is-written .1) ∙ lines-rendered (noticeLines old new) (lines.all-lines-valid old new bo bn ao an)
+
+  stands-iff : (k slot : ℕ) (f : Finding) → k < sections → Shows f
+      → Stands (written r out′) k slot f ↔ List·Memᴰ (line k slot f) (noticeLines old new)
+  stands-iff k slot f hk s =
+      rw lines-are-written (text-iff (line k slot f) (noticeLines old new) (record { known = hk; shows = s }) (lines.all-lines-valid old new bo bn ao an))
+
+  -- the input that an ALTR line shows tells the two apart [D3.6]
+  pub line-shows-one-that-does : (k slot : ℕ) (input : Input) → k < sections → Fits input → Stands (written r out′) k slot (Changed (Altr input))
+      → TellsApart (hitOf k (descriptionAt k slot old)) (hitOf k (descriptionAt k slot new)) input
+  line-shows-one-that-does k slot input hk f i =
+      lines.line-shows-one-that-does old new bo bn ao an k slot input hk (stands-iff k slot (Changed (Altr input)) hk f .0 i)
 
   -- a shared slot of any section but the sums has an ALTR line where some input tells the two apart, and only there [D3.5]
   pub alteration-iff-some-input-tells : (k slot : ℕ) → k < sections → (k ≡ SUMS → ⊥) → Shared k slot old new
-      → AlterationLine old new k slot ↔ SomeInputTells k (descriptionAt k slot old) (descriptionAt k slot new)
-  alteration-iff-some-input-tells = lines.alteration-iff-some-input-tells old new bo bn ao an
-
-  -- the input that the line shows is such a one [D3.6]
-  pub line-shows-one-that-does : (k slot : ℕ) (input : Input) → k < sections → List·Memᴰ (line k slot (Changed (Altr input))) (noticeLines old new)
-      → TellsApart (hitOf k (descriptionAt k slot old)) (hitOf k (descriptionAt k slot new)) input
-  line-shows-one-that-does = lines.line-shows-one-that-does old new bo bn ao an
+      → AlterationIn (written r out′) k slot ↔ SomeInputTells k (descriptionAt k slot old) (descriptionAt k slot new)
+  alteration-iff-some-input-tells k slot hk n s = (
+    (λ a. record { input = a .input; tells = line-shows-one-that-does k slot (a .input) hk (a .fits) (a .there) }),
+    (λ w.
+        let l = lines.alteration-iff-some-input-tells old new bo bn ao an k slot hk n s .1 w in
+        let f = lines.line-shows-one-that-does old new bo bn ao an k slot (l .input) hk (l .there) .fits in
+        record { input = l .input; fits = f; there = stands-iff k slot (Changed (Altr (l .input))) hk f .1 (l .there) }),
+  )
 
   -- a term's line shows the least [D3.7]
-  pub pattern-line-shows-the-least : (slot : ℕ) (input : Input) → List·Memᴰ (line TERMS slot (Changed (Altr input))) (noticeLines old new)
+  pub pattern-line-shows-the-least : (slot : ℕ) (input : Input) → Fits input → Stands (written r out′) TERMS slot (Changed (Altr input))
       → NoneLess (hitOf TERMS (descriptionAt TERMS slot old)) (hitOf TERMS (descriptionAt TERMS slot new)) input
-  pattern-line-shows-the-least = lines.pattern-line-shows-the-least old new bo bn ao an
+  pattern-line-shows-the-least slot input f i =
+      lines.pattern-line-shows-the-least old new bo bn ao an slot input (stands-iff TERMS slot (Changed (Altr input)) (omega arith) f .0 i)
 
   -- a slot that one sheet alone has gets NEW or GONE, and no other slot does [D3.8]
-  pub new-line : (k slot : ℕ) → k < sections → List·Memᴰ (line k slot New) (noticeLines old new) ↔ ((recordOf k slot old ≡ []) × Has k slot new)
-  new-line k slot = lines.line-iff old new bo bn ao an k slot New
+  pub new-line : (k slot : ℕ) → k < sections → Stands (written r out′) k slot New ↔ ((recordOf k slot old ≡ []) × Has k slot new)
+  new-line k slot hk =
+      let there = stands-iff k slot New hk tt in
+      let says = lines.line-iff old new bo bn ao an k slot New hk in
+      (λ i. says .0 (there .0 i), λ g. there .1 (says .1 g))
 
-  pub gone-line : (k slot : ℕ) → k < sections → List·Memᴰ (line k slot Gone) (noticeLines old new) ↔ (Has k slot old × (recordOf k slot new ≡ []))
-  gone-line k slot = lines.line-iff old new bo bn ao an k slot Gone
+  pub gone-line : (k slot : ℕ) → k < sections → Stands (written r out′) k slot Gone ↔ (Has k slot old × (recordOf k slot new ≡ []))
+  gone-line k slot hk =
+      let there = stands-iff k slot Gone hk tt in
+      let says = lines.line-iff old new bo bn ao an k slot Gone hk in
+      (λ i. says .0 (there .0 i), λ g. there .1 (says .1 g))
 
   -- so a shared slot has neither [D3.9]
-  pub shared-not-new : (k slot : ℕ) → k < sections → Shared k slot old new → List·Memᴰ (line k slot New) (noticeLines old new) → ⊥
+  pub shared-not-new : (k slot : ℕ) → k < sections → Shared k slot old new → Stands (written r out′) k slot New → ⊥
   shared-not-new k slot hk s i = s .0 (new-line k slot hk .0 i .0)
 
-  pub shared-not-gone : (k slot : ℕ) → k < sections → Shared k slot old new → List·Memᴰ (line k slot Gone) (noticeLines old new) → ⊥
+  pub shared-not-gone : (k slot : ℕ) → k < sections → Shared k slot old new → Stands (written r out′) k slot Gone → ⊥
   shared-not-gone k slot hk s i = s .1 (gone-line k slot hk .0 i .1)
 
 -- besides: no line appears twice

@@ -4,6 +4,7 @@ pub mod Demand2
 pub mod Tellings
 pub mod EqualWords
 pub mod NoticeBytes
+pub mod Written
 pub mod AlterationLines
 pub mod NoticeLists
 pub mod Demand3

@@ -57,7 +57,7 @@ unhex-all : (n x : ℕ) → x < 16 ^ n → unhex 0 (hex n x) ≡ x
 unhex-all n x h = unhex-hex n x 0 ∙ rw (mod-eq-of-lt h) (omega arith)
 
 -- no digit ends the line
-digit-not-end : (d : ℕ) → eqb (hexDigit d) 10 ≡ false
+pub digit-not-end : (d : ℕ) → eqb (hexDigit d) 10 ≡ false
 digit-not-end d =
     elim (decLt d 10) [
       | yes l ↦ rw (lt-ltb d 10 l) (ne-eqb (48 + d) 10 (λ e. omega arith))
@@ -151,6 +151,11 @@ line-back l rest v =
     ap lineBack (append-assoc (nameOf (l .section) ++ slotText (l .slot)) (findingText (l .finding)) rest
     ∙ append-assoc (nameOf (l .section)) (slotText (l .slot)) (findingText (l .finding) ++ rest))
     ∙ parts (l .section) (l .slot) (l .finding) rest (v .known) (v .shows)
+
+-- equal texts are one line
+pub same-text-same-line : (l m : Line) → Valid l → Valid m → render l ≡ render m → l ≡ m
+same-text-same-line l m v w e =
+    sym (line-back l [] v) ∙ ap (λ (t : List ℕ). lineBack (t ++ [])) e ∙ line-back m [] w
 
 -- ---- a notice
 

@@ -1,18 +1,21 @@
 -- The examples that the rules mark as proved in one table.
-use mathlib.Core.Bool.{Bool, true, false, _&&_, Bool·beq}
+use mathlib.Core.Bool.{Bool, true, false, cond, _&&_}
 use mathlib.Core.List.{List, [], _∷_, _++_}
 use Prim.Native.Nat.{ℕ}
 use lib.Dec.{eqb}
 use lib.ListN.{replicate}
 use Rattle.lines.specs.Gather.{gathered}
 use Rattle.buffer.specs.Same.{same}
-use Rattle.lut.specs.declared.Telling.{Telling}
-use Rattle.lut.specs.declared.Telling.the-variants.{Alike, Apart}
+use Rattle.buffer.specs.Verdict.{verdictNumber}
+use Rattle.lut.specs.Answer.{answerHit}
 use Rattle.term.specs.Words.{termWords}
-use Rattle.range.specs.Rule.{rangeHit, rangeFault}
 use Rattle.range.specs.Words.{sentWords}
-use Rattle.range_telling.specs.Telling.{rangeTelling}
+use Rattle.range.specs.Model.{runRange}
 use Rattle.edge.specs.Words.{edgeWords}
+use Rattle.records.specs.Sections.{labelSize, fieldBytes}
+use Rattle.sheet.specs.Parsed.{render}
+use Rattle.sheet.specs.Reading.{verdict}
+use Rattle.notice.specs.Notice.{noticeText}
 
 -- what an example says [K5]
 pub data Example : Type 0 where
@@ -20,31 +23,33 @@ pub data Example : Type 0 where
   pattern : (target mask : ℕ) → List ℕ → Example
   range : (lower upper mask : ℕ) → List ℕ → Example
   edge : (rise fall neither : ℕ) → List ℕ → Example
-  -- this range hits the sample, or misses it
+  -- this range's words, run in the model, hit the sample, or miss it
   hits : (lower upper mask sample : ℕ) → Bool → Example
   -- this is what the sample gathers to
   gathers : (mask sample number : ℕ) → Example
-  -- this refusal number is the range's, 0 if it is accepted
+  -- a sheet with this range is refused with this number, 0 if it is accepted
   refused : (lower upper mask number : ℕ) → Example
-  -- WORD: no sample tells these two ranges apart
+  -- of the one range to the other the notice says WORD
   word : (lower upper mask lower′ upper′ mask′ : ℕ) → Example
 
--- no sample tells the two apart [E7]
-abbrev pub isAlike : Telling → Bool
-isAlike Alike = true
-isAlike (Apart input) = false
+-- a sheet with one range, in slot 0, and a blank label [E6, E7]
+unfoldable pub sheetWith : (lower upper mask : ℕ) → List ℕ
+sheetWith lower upper mask = render ([] ∷ ((0 ∷ (replicate labelSize 0x20 ++ fieldBytes (lower ∷ upper ∷ mask ∷ []))) ∷ []) ∷ [] ∷ [] ∷ [])
 
--- whether what an example says is so, by the definitions of the calls [K5]
+-- the notice `RANG 00 WORD` [E7]
+abbrev pub wordLine : List ℕ
+wordLine = 82 ∷ 65 ∷ 78 ∷ 71 ∷ 32 ∷ 48 ∷ 48 ∷ 32 ∷ 87 ∷ 79 ∷ 82 ∷ 68 ∷ 10 ∷ []
+
+-- whether what an example says is so, by the definitions of the calls: words that are sent, words that are run, a sheet
+-- that is judged, a notice that is written [K5]
 unfoldable pub holds : Example → Bool
 holds (pattern target mask words) = same (termWords target mask) words
 holds (range lower upper mask words) = same (sentWords lower upper mask) words
 holds (edge rise fall neither words) = same (edgeWords rise fall neither) words
-holds (hits lower upper mask sample hit) = Bool·beq (rangeHit lower upper mask sample) hit
+holds (hits lower upper mask sample hit) = eqb (answerHit (runRange (sentWords lower upper mask) sample)) (cond hit 1 0)
 holds (gathers mask sample number) = eqb (gathered 32 sample mask) number
-holds (refused lower upper mask number) = eqb (rangeFault lower upper mask) number
-holds (word lower upper mask lower′ upper′ mask′) =
-    isAlike
-    (rangeTelling (record { lower = lower; upper = upper; mask = mask }) (record { lower = lower′; upper = upper′; mask = mask′ }))
+holds (refused lower upper mask number) = eqb (verdictNumber (verdict (sheetWith lower upper mask))) number
+holds (word lower upper mask lower′ upper′ mask′) = same (noticeText (sheetWith lower upper mask) (sheetWith lower′ upper′ mask′)) wordLine
 
 -- whether all of them are so [K5]
 unfoldable pub allHold : List Example → Bool

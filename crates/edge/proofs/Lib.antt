@@ -8,5 +8,4 @@ pub mod TellLine
 pub mod TellApart
 pub mod TellWalk
 pub mod Theorems
-pub mod Examples
 pub mod Ways

@@ -12,7 +12,7 @@ use Rattle.records.specs.Sections.{sections, kindOf, mostOf, descriptionSize, d
 use Rattle.sheet.specs.Reading.{recordsVerdict, countVerdict, sectionVerdict, sectionsVerdict, verdict}
 use Rattle.records.specs.Records.{recordAt, recordCount, find, front}
 use Rattle.sheet.specs.Parts.{sectionUnchecked, sectionOf}
-use Rattle.sheet.specs.Parsed.{joined, render, Faultless, WellFormed, parse, AcceptedDescription}
+use Rattle.sheet.specs.Parsed.{joined, render, Faultless, WellFormed, Arranged, parse, AcceptedDescription}
 use Rattle.kinds.specs.Table as kinds
 use Rattle.sheet.proofs.Descriptions.{accepted-description}
 use Rattle.sheet.proofs.Examples.{full, full-length, full-accepted}
@@ -24,12 +24,6 @@ use Rattle.sheet.proofs.Reading.{unchecked, section-unknown, section-re
 use Rattle.sheet.proofs.Records.{section-ordered, section-joined, record-of, count-of, record-faultless, slots-rise}
 
 -- ---- what a sheet is
-
--- s is four sections one after the other, each a count and that many faultless records with strictly rising slots, and nothing after
-pub record Arranged (s : List ℕ) : Type 0 where
-  pub parts : List (List (List ℕ))
-  pub formed : WellFormed parts
-  pub is : render parts ≡ s
 
 -- accepted sheets are exactly these [S1, S3, S4, S7]
 pub accepted-iff-arranged : (s : List ℕ) → (verdict s ≡ Accepted) ↔ Arranged s

@@ -45,6 +45,12 @@ pub record WellFormed (p : List (List (List ℕ))) : Type 0 where
   pub all : length p ≡ sections
   pub good : Sections 0 p
 
+-- bytes that are such sections, rendered: each a count and that many records, and nothing behind [S1, S7]
+pub record Arranged (s : List ℕ) : Type 0 where
+  pub parts : List (List (List ℕ))
+  pub formed : WellFormed parts
+  pub is : render parts ≡ s
+
 -- the first n sections from section k on, as the counts there say [S12]
 unfoldable pub sectionsFrom : ℕ → ℕ → List ℕ → List (List (List ℕ))
 sectionsFrom zero k rest = []

@@ -49,7 +49,7 @@ const LINE: [u32; 4] = [0xAAAA, 0xCCCC, 0xF0F0, 0xFF00];
 fn term_table(target: u32, mask: u32) -> u32 {
     let mut table = 0xFFFF;
     for (line, ones) in LINE.into_iter().enumerate() {
-        let differs = ones ^ (target >> line & 1) * 0xFFFF;
+        let differs = ones ^ ((target >> line & 1) * 0xFFFF);
         table &= !(differs * (mask >> line & 1));
     }
     table

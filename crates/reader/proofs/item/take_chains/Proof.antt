@@ -65,22 +65,37 @@ returns c =
 
 -- a chain without fault: it lies within the stream
 module _ (c : tie.After-enum-told Inv-loop μ-loop) where
-  part : c .before .before .before .before .before .before .before .loop .to + c .before .before .before .before .before .before .before .before .before .chain-length .result - c .before .before .before .before .before .before .before .loop .to ≡ c .before .before .before .before .before .before .before .before .before .chain-length .result
+  abbrev each : ℕ
+  each = c .before .before .before .before .before .before .before .before .before .chain-length .result
+
+  abbrev bytes : List ℕ
+  bytes = now (c .before .before .before .before .before .before .before .before .before .before .before .before .args .stream)
+
+  abbrev from : ℕ
+  from = c .before .before .before .before .before .before .before .loop .from
+
+  abbrev to : ℕ
+  to = c .before .before .before .before .before .before .before .loop .to
+
+  abbrev due : ℕ
+  due = c .before .before .before .before .before .before .before .loop .due
+
+  abbrev words : List ℕ
+  words = c .before .before .before .before .before .before .before .loop .words
+
+  part : to + each - to ≡ each
   part = omega arith
 
-  fits : c .before .before .before .before .before .before .before .loop .to + c .before .before .before .before .before .before .before .before .before .chain-length .result ≤ length (c .before .before .before .before .before .before .before .loop .words)
-  fits = omega (arith, left-less (c .before .before .before .before .before .before .before .loop .left) (c .before .before .before .before .before .before .before .before .before .chain-length .result) (omega arith))
+  fits : to + each ≤ length words
+  fits = omega (arith, left-less (c .before .before .before .before .before .before .before .loop .left) each (omega arith))
 
-  fine : chainsVerdict (c .before .before .before .before .before .before .before .before .before .chain-length .result ∷ []) (c .before .before .before .before .before .before .before .loop .due) (c .before .before .before .before .before .before .before .loop .from) (drop (c .before .before .before .before .before .before .before .loop .from) (now (c .before .before .before .before .before .before .before .before .before .before .before .before .args .stream))) ≡ Accepted
+  fine : chainsVerdict (each ∷ []) due from (drop from bytes) ≡ Accepted
   fine =
-      let l = c .before .before .before .before .before .before .before .loop in
-      sym
-      (chain-answer (l .to) (c .before .before .before .before .before .before .before .before .before .chain-length .result) _ (l .words) _ (now (c .before .before .before .before .before .before .before .before .before .before .before .before .args .stream)) (l .due) (l .from) _ fits part (c .before .before .before .before .take-chain .kept .1 .1 .1 .0)
-      (c .before .before .before .before .take-chain .ensures))
-      ∙ c .enum-told .given .1
+      let taken = c .before .before .before .before .take-chain in
+      sym (chain-answer to each _ words _ bytes due from _ fits part (taken .kept .1 .1 .1 .0) (taken .ensures)) ∙ c .enum-told .given .1
 
-  within : c .before .before .before .before .before .before .before .loop .from + (5 + 5 * c .before .before .before .before .before .before .before .before .before .chain-length .result) ≤ length (now (c .before .before .before .before .before .before .before .before .before .before .before .before .args .stream))
-  within = chain-within (c .before .before .before .before .before .before .before .before .before .chain-length .result) (c .before .before .before .before .before .before .before .loop .due) (c .before .before .before .before .before .before .before .loop .from) (now (c .before .before .before .before .before .before .before .before .before .before .before .before .args .stream)) fine
+  within : from + (5 + 5 * each) ≤ length bytes
+  within = chain-within each due from bytes fine
 
 mul-from : tie.Need-mul-from Inv-loop μ-loop
 mul-from c = omega (arith, within c)
@@ -94,11 +109,12 @@ add-from-2 c = omega (arith, within c)
 loop-again : tie.Need-loop-again Inv-loop μ-loop
 loop-again c =
     let l = c .before .before .before .before .before .before .before .loop in
-    let s : List ℕ = now (c .before .before .before .before .before .before .before .before .before .before .before .before .args .stream) in
-    let each : ℕ = c .before .before .before .before .before .before .before .before .before .chain-length .result in
+    let s : List ℕ = bytes c in
+    let each : ℕ = each c in
+    let taken = c .before .before .before .before .take-chain in
     let pos : 0 < l .left = omega arith in
     let more = left-less (l .left) each pos in
-    let words = chain-words (l .to) each _ (l .words) _ s (l .due) (l .from) _ (fits c) (part c) (c .before .before .before .before .take-chain .kept .1 .1 .1 .0) (c .before .before .before .before .take-chain .ensures) (fine c) in (
+    let words = chain-words (l .to) each _ (l .words) _ s (l .due) (l .from) _ (fits c) (part c) (taken .kept .1 .1 .1 .0) (taken .ensures) (fine c) in (
       omega arith,
       omega arith,
       omega (arith, more),
