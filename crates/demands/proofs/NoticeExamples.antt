@@ -1,4 +1,5 @@
--- 01's notice, byte for byte, and the slips that a notice must not make, each computed. Assumes nothing.
+-- The notice that the rules give whole, byte for byte, and the slips that a notice must not make, each computed. Assumes
+-- nothing.
 use Prim.Native.Nat.{ℕ}
 use mathlib.Core.Bool.{Bool, true, _&&_}
 use mathlib.Core.List.{List, [], _∷_, _++_}
