@@ -1,4 +1,4 @@
-/* What the number of a refusal means, in words: those of the command line (crates/text, `meaning`). tests/cli.sh compares the two. */
+/* What the number of a refusal means, in words: those of the command line (crates/refusal/specs/Words). tests/cli.sh compares the two. */
 #include "voltamar.h"
 
 static const char *const meanings[] = {

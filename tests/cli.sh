@@ -211,7 +211,7 @@ helps() {
 
 # the words of the refusals stand in three languages
 meanings() {
-    sed -n 's/^ *\([0-9]*\) => \*b"\(.\{52\}\)",$/\1 \2/p' "$root/crates/text/src/names.rt" | sed 's/ *$//' >of_text
+    sed -n 's/^ *∷ "\(.*\)"$/\1/p' "$root/crates/refusal/specs/Words.antt" | awk '{ print NR, $0 }' >of_text
     sed -n 's/^ *\[VOLTAMAR_.*\] = "\(.*\)",$/\1/p' "$root/include/meaning.c" | sed 1d | awk '{ print NR, $0 }' >of_c
     sed -n 's/^ *\([0-9]*\) => "\(.*\)",$/\1 \2/p' "$root/rust/src/lib.rs" >of_rust
     [ "$(wc -l <of_text)" -ge 17 ] || wrong 'meanings: not found'

@@ -4,6 +4,8 @@
 # - Each rule that is cited stands in docs/RULES.md, once.
 # - Each rule is cited in crates/*/specs or crates/demands/proofs. E, K and L, some of which are run or bind the code
 #   alone, may be cited in any crate's code or proofs instead.
+# And whether docs/CONTRACTS.md and the must-fail edits do: each edit that its third column names, in brackets, is a
+# file crates/*/must-fail/NAME.edit, and each such file is named there.
 # Prints what is missing, a line for each, and a count; the exit status is 1 if anything is.
 cd "$(dirname "$0")/.." || exit 2
 work=$(mktemp -d) || exit 2
@@ -48,6 +50,12 @@ awk '
     FILENAME ~ /stated$/ || $2 ~ /^[EKL]/ { cited[$2] }
     END { for (i = 1; i <= count; i++) if (!(order[i] in cited)) print "docs/RULES.md: nothing cites " order[i] }' \
     "$work/rules" "$work/stated" "$work/anywhere" | sort -u >>"$work/missing"
+
+# the edits that the contracts name, and the edits there are
+awk -F' \\| ' 'NF == 3 { print $3 }' docs/CONTRACTS.md | grep -o '(`[a-z0-9_]*`)' | tr -d '(`)' | sort -u >"$work/named"
+ls crates/*/must-fail/*.edit | sed 's|.*/||; s|\.edit$||' | sort -u >"$work/edits"
+comm -23 "$work/named" "$work/edits" | sed 's|^|docs/CONTRACTS.md: no such edit: |' >>"$work/missing"
+comm -13 "$work/named" "$work/edits" | sed 's|^|docs/CONTRACTS.md: does not name the edit |' >>"$work/missing"
 
 cat "$work/missing"
 echo "$(wc -l <"$work/rules") rules, $(wc -l <"$work/missing") missing"

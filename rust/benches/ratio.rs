@@ -1,17 +1,20 @@
 //! Times the proved library and the plain implementation on the same inputs: `cargo bench --offline`. For each call it
 //! prints the nanoseconds of both and their ratio. Output buffers are made once and are not cleared between calls, on
 //! either side (plain's read and notice write to a page of their own first, and copy). Both sides run in turn; the best
-//! of many rounds counts.
+//! of many rounds counts. The rounds of a short call last long enough that another process cannot disturb all of them.
 use plain::make::{self, Random, Setup};
 use std::hint::black_box;
-use std::time::Instant;
+use std::time::{Duration, Instant};
 
 const ROUNDS: usize = 60;
+const LEAST: Duration = Duration::from_millis(300);
 
 /// Nanoseconds of one call, the best of all rounds, for both sides.
 fn compare<I, A, B>(name: &str, inputs: &[I], mut proved: impl FnMut(&I) -> A, mut plain: impl FnMut(&I) -> B) {
     let mut best = [f64::MAX; 2];
-    for _ in 0..ROUNDS {
+    let (began, mut rounds) = (Instant::now(), 0);
+    while rounds < ROUNDS || began.elapsed() < LEAST {
+        rounds += 1;
         let start = Instant::now();
         inputs.iter().for_each(|input| _ = black_box(proved(black_box(input))));
         best[0] = best[0].min(start.elapsed().as_secs_f64());

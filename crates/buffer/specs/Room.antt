@@ -9,6 +9,7 @@ use Rattle.buffer.specs.declared.Verdict.{Verdict}
 use Rattle.buffer.specs.declared.Verdict.the-variants as Verdict
 use Rattle.buffer.specs.declared.Outcome.{Outcome}
 use Rattle.buffer.specs.declared.Outcome.the-variants as Outcome
+use Rattle.buffer.specs.Verdict.{outcomeNumber, outcomePlace}
 
 -- what a call has to say: the bytes to be written, or a refusal by number and place [A1, A2]
 pub data Reply : Type 0 where
@@ -38,9 +39,21 @@ abbrev pub after : Reply → List ℕ → List ℕ
 after (bytes bs) room = cond (leb (length bs) (length room)) (fill bs room) room
 after (refusal number place) room = room
 
--- a call that was lent room answered r and left room′ [A1, A2, A3, G14]
+-- the answer's number: the refusal's, 12 for bytes that do not fit, else 0 [A3, A5, F12]
+abbrev pub replyNumber : Reply → ℕ → ℕ
+replyNumber (bytes bs) size = cond (leb (length bs) size) 0 12
+replyNumber (refusal number place) size = number
+
+-- and its place: the refusal's; the count of the bytes, which is written or needed [A1, A5, A6, F12]
+abbrev pub replyPlace : Reply → ℕ
+replyPlace (bytes bs) = length bs
+replyPlace (refusal number place) = place
+
+-- a call that was lent room answered r, in numbers these, and left room′ [A1, A2, A3, A5, G14]
 pub record Delivered (reply : Reply) (room : List ℕ) (r : Outcome) (room′ : List ℕ) : Type 0 where
   pub answer : r ≡ outcome reply (length room)
+  pub number : outcomeNumber r ≡ replyNumber reply (length room)
+  pub place : outcomePlace r ≡ replyPlace reply
   pub left : room′ ≡ after reply room
 
 -- text was put at an index, and the index behind it is answered [A10]

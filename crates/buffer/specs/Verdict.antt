@@ -1,6 +1,8 @@
 -- Refusals: what a check finds, and that the first fault wins.
 use Prim.Native.Nat.{ℕ, zero, suc}
 use mathlib.Core.Bool.{Bool, true, false, cond}
+use mathlib.Core.Path.{_≡_}
+use mathlib.Core.Logic.{_↔_}
 use Rattle.buffer.specs.declared.Verdict.{Verdict}
 use Rattle.buffer.specs.declared.Verdict.the-variants as Verdict
 use Rattle.buffer.specs.declared.Outcome.{Outcome}
@@ -48,3 +50,9 @@ outcomeNumber (Outcome.Refused number place) = number
 abbrev pub outcomePlace : Outcome → ℕ
 outcomePlace (Outcome.Done n) = n
 outcomePlace (Outcome.Refused number place) = place
+
+-- an answered verdict in numbers: those of the one that is due, and 0 exactly where nothing is refused [A5, A6]
+pub record VerdictNumbered (due r : Verdict) : Type 0 where
+  pub number : verdictNumber r ≡ verdictNumber due
+  pub place : verdictPlace r ≡ verdictPlace due
+  pub none : (verdictNumber r ≡ 0) ↔ (due ≡ Verdict.Accepted)

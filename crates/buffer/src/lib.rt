@@ -1,24 +1,15 @@
-// Bytes and lent room: what every call of the house reads from, writes into, and answers.
-// Promises: readers and writers are total; a writer that refuses changes nothing, one that writes leaves what lies beyond.
-// Rests on: lines (laws of tests).
-mod bytes;
+// Lent room, and what every call of the house answers.
+// Promises: writers are total; one that refuses changes nothing, one that writes leaves what lies beyond.
+// Rests on: peek (bytes as they are read), lines (laws of tests).
 mod fields;
 mod room;
 mod words;
 
-pub use bytes::all_within;
-pub use bytes::byte_at;
-pub use bytes::prefix;
-pub use bytes::same_bytes;
-pub use bytes::suffix;
-pub use bytes::u32_at;
-pub use fields::field;
 pub use fields::put_numbers;
 pub use room::put_at;
 pub use room::put_bytes;
 pub use room::put_u32;
 pub use words::put_words;
-pub use words::same_words;
 
 // The refusal that every writer shares; its place is the bytes needed.
 pub const OUTPUT_TOO_SHORT: u8 = 12;

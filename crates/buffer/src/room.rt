@@ -1,5 +1,5 @@
 // Writers into lent room. Each writes at the start of what it is lent, or from an index on, and changes nothing where it does not fit.
-ghost use Rattle.buffer.specs.Bytes.{u32Bytes};
+ghost use Rattle.peek.specs.Bytes.{u32Bytes};
 ghost use Rattle.buffer.specs.Room.{bytes, Delivered, Put};
 use crate::OUTPUT_TOO_SHORT;
 use crate::Outcome;

@@ -18,7 +18,7 @@ fn wrong_verb(arg: usize, err: i32) -> u8 {
     let name = words::verb_name(words::nearest_verb(arg));
     console::name(arg, err);
     io::write_all(err, b": no such verb; the nearest is ");
-    io::write_all(err, buffer::prefix(&name, text::trimmed(&name)));
+    io::write_all(err, peek::prefix(&name, text::trimmed(&name)));
     io::write_all(err, b", and `voltamar help` lists them all\n");
     TROUBLE
 }

@@ -30,8 +30,8 @@ pub(crate) fn notice(
     *new_length = second.count;
     judge(
         line,
-        buffer::prefix(old, first.count),
-        buffer::prefix(new, second.count),
+        peek::prefix(old, first.count),
+        peek::prefix(new, second.count),
         out,
         err,
     )
@@ -43,7 +43,7 @@ fn judge(line: Line, old: &[u8], new: &[u8], out: i32, err: i32) -> u8 {
         Noticed::Done(length) => if line.is_report {
             DIGESTS
         } else {
-            console::deliver(buffer::prefix(&room, length), line, out, err)
+            console::deliver(peek::prefix(&room, length), line, out, err)
         },
         Noticed::Old(number, place) => console::refused_sheet(line.first, old, number, place, err),
         Noticed::New(number, place) => console::refused_sheet(line.second, new, number, place, err),
@@ -84,7 +84,7 @@ pub fn write_report(
 fn write_notice(old: &[u8], new: &[u8], fd: i32) -> bool {
     let mut room = [0u8; notice::LONGEST];
     match notice::notice(old, new, &mut room) {
-        Noticed::Done(length) => report::report(buffer::prefix(&room, length), old, new, fd),
+        Noticed::Done(length) => report::report(peek::prefix(&room, length), old, new, fd),
         _ => false,
     }
 }
@@ -96,9 +96,7 @@ fn write_name(title: &[u8], arg: usize, length: usize, digest: &[u8], fd: i32) -
     let b = buffer::put_at(&mut line, a, b" bytes, SHA-256 ");
     let c = put_digest(&mut line, b, digest);
     let d = buffer::put_at(&mut line, c, b"\n");
-    io::write_all(fd, title)
-        && console::name(arg, fd)
-        && io::write_all(fd, buffer::prefix(&line, d))
+    io::write_all(fd, title) && console::name(arg, fd) && io::write_all(fd, peek::prefix(&line, d))
 }
 
 fn put_digest(out: &mut [u8], at: usize, digest: &[u8]) -> usize {

@@ -11,7 +11,7 @@ pub(crate) fn sheet(arg: usize, out: i32, err: i32) -> u8 {
     if !input.is_read {
         return TROUBLE;
     }
-    let bytes = buffer::prefix(&sheet, input.count);
+    let bytes = peek::prefix(&sheet, input.count);
     match sheet::check(bytes) {
         Verdict::Accepted => console::written(show::show_sheet(bytes, bytes.len(), out), err),
         Verdict::Refused(number, place) => {
@@ -29,7 +29,7 @@ pub(crate) fn commands(arg: usize, out: i32, err: i32) -> u8 {
     if !input.is_read {
         return TROUBLE;
     }
-    let bytes = buffer::prefix(&stream, input.count);
+    let bytes = peek::prefix(&stream, input.count);
     match reader::read(bytes, &mut room) {
         Outcome::Done(_) => console::written(show::show_commands(bytes, bytes.len(), out), err),
         Outcome::Refused(number, place) => {
@@ -45,7 +45,7 @@ fn mark(number: u8, place: usize, out: i32) -> bool {
     let mut line = [0u8; 256];
     let a = text::put_padded(&mut line, 0, place);
     let b = buffer::put_at(&mut line, a, b"  *** ");
-    let c = faults::put_refusal(&mut line, b, number, place);
+    let c = refusal::put_refusal(&mut line, b, number, place);
     let d = buffer::put_at(&mut line, c, b"\n");
-    io::write_all(out, buffer::prefix(&line, d))
+    io::write_all(out, peek::prefix(&line, d))
 }

@@ -128,7 +128,7 @@ fn check(arg: usize, out: i32, err: i32) -> u8 {
     if !input.is_read {
         return TROUBLE;
     }
-    let bytes = buffer::prefix(&sheet, input.count);
+    let bytes = peek::prefix(&sheet, input.count);
     match sheet::check(bytes) {
         Verdict::Accepted => console::accepted(arg, out, err),
         Verdict::Refused(number, place) => console::refused_sheet(arg, bytes, number, place, err),
@@ -147,7 +147,7 @@ fn section(line: Line, out: i32, err: i32) -> u8 {
     if !input.is_read {
         return TROUBLE;
     }
-    let bytes = buffer::prefix(&sheet, input.count);
+    let bytes = peek::prefix(&sheet, input.count);
     match sheet::check(bytes) {
         Verdict::Accepted => console::deliver(sheet::section(bytes, asked), line, out, err),
         Verdict::Refused(number, place) => console::refused_sheet(
@@ -167,9 +167,9 @@ fn compile(line: Line, out: i32, err: i32) -> u8 {
     if !input.is_read {
         return TROUBLE;
     }
-    let bytes = buffer::prefix(&sheet, input.count);
+    let bytes = peek::prefix(&sheet, input.count);
     match compiler::compile(bytes, &mut room) {
-        Outcome::Done(length) => console::deliver(buffer::prefix(&room, length), line, out, err),
+        Outcome::Done(length) => console::deliver(peek::prefix(&room, length), line, out, err),
         Outcome::Refused(number, place) => console::refused_sheet(
             line.first,
             bytes,
@@ -187,9 +187,9 @@ fn read_back(line: Line, out: i32, err: i32) -> u8 {
     if !input.is_read {
         return TROUBLE;
     }
-    let bytes = buffer::prefix(&stream, input.count);
+    let bytes = peek::prefix(&stream, input.count);
     match reader::read(bytes, &mut room) {
-        Outcome::Done(length) => console::deliver(buffer::prefix(&room, length), line, out, err),
+        Outcome::Done(length) => console::deliver(peek::prefix(&room, length), line, out, err),
         Outcome::Refused(number, place) => console::refused_stream(
             line.first,
             bytes,

@@ -46,7 +46,7 @@ pub(crate) fn verb_of(arg: usize) -> u8 {
 
 fn is_verb(arg: usize, verb: u8) -> bool {
     let name = verb_name(verb);
-    is_word(arg, buffer::prefix(&name, text::trimmed(&name)))
+    is_word(arg, peek::prefix(&name, text::trimmed(&name)))
 }
 
 // The verb whose letters are nearest to those of an argument.

@@ -25,7 +25,7 @@ fn run_table(last: usize) {
 fn ends_case(first: usize, i: usize) -> bool {
     let mut buf = io::buffer();
     let n = os::arg(i, &mut buf);
-    if !buffer::same_bytes(&buf[..n], b"--") {
+    if !peek::same_bytes(&buf[..n], b"--") {
         return false;
     }
     let status = run_case(first, i);
@@ -76,7 +76,7 @@ fn wrong_count() {
 
 fn write_refusal(number: u8, place: usize) {
     let mut line = [0u8; 128];
-    let a = faults::put_refusal(&mut line, 0, number, place);
+    let a = refusal::put_refusal(&mut line, 0, number, place);
     let b = buffer::put_at(&mut line, a, b"\n");
-    io::write_all(1, buffer::prefix(&line, b));
+    io::write_all(1, peek::prefix(&line, b));
 }

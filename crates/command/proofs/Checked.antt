@@ -9,11 +9,11 @@ use borrow.Author.Tests.{lt-ltb, le-ltb, eq-eqb, ne-eqb, ltb-false, eqb-true, no
 use lib.Dec.{ltb, eqb, lit<}
 use lib.ListN.{length, drop, length-drop}
 use lib.Seq.{drop-drop}
-use Rattle.buffer.specs.Bytes.{Bytes}
+use Rattle.peek.specs.Bytes.{Bytes}
 use Rattle.buffer.specs.Verdict.{andThen, refuseIf}
 use Rattle.buffer.specs.declared.Verdict.the-variants.{Accepted, Refused}
 use Rattle.buffer.proofs.Faults.{andThen-accepted, refuseIf-accepted}
-use Rattle.buffer.proofs.Numbers.{bytes-drop, u32-small}
+use Rattle.peek.proofs.Numbers.{bytes-drop, u32-small}
 use Rattle.command.specs.Command.{loadOp, Words}
 use Rattle.command.specs.Reading.{opcode, number, commandVerdict, loadsVerdict, wordsIn}
 

@@ -5,10 +5,10 @@ use mathlib.Core.List.{List, [], _∷_, _++_}
 use native.Mathlib.Omega.{arith}
 use lib.ListN.{length, take, drop}
 use lib.Seq.{take-add, drop-at}
-use Rattle.buffer.specs.Bytes.{Bytes, u32Bytes}
+use Rattle.peek.specs.Bytes.{Bytes, u32Bytes}
 use Rattle.buffer.specs.declared.Verdict.the-variants.{Accepted}
 use Rattle.buffer.proofs.Faults.{andThen-accepted, andThen-both}
-use Rattle.buffer.proofs.Numbers.{bytes-tail, bytes-drop, u32-drop, u32-read, u32-written}
+use Rattle.peek.proofs.Numbers.{bytes-tail, bytes-drop, u32-drop, u32-read, u32-written}
 use Rattle.command.specs.Command.{selectOp, loadOp, command, loads, chain, Words}
 use Rattle.command.specs.Reading.{number, commandVerdict, loadsVerdict, wordsIn}
 use Rattle.command.proofs.Written.{length-loads, length-chain, words-tail}

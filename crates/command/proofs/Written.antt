@@ -8,8 +8,8 @@ use native.Mathlib.Omega.{arith}
 use lib.Dec.{lit<}
 use lib.ListN.{length, drop, getD, drop-of-length-le}
 use lib.Seq.{drop-cons}
-use Rattle.buffer.specs.Bytes.{Bytes, u32Bytes}
-use Rattle.buffer.proofs.Numbers.{bytes-nil, bytes-cons, bytes-append, bytes-u32}
+use Rattle.peek.specs.Bytes.{Bytes, u32Bytes}
+use Rattle.peek.proofs.Numbers.{bytes-nil, bytes-cons, bytes-append, bytes-u32}
 use Rattle.command.specs.Command.{selectOp, loadOp, command, loads, chain, Words}
 
 -- ---- lengths

@@ -2,7 +2,7 @@
 use Prim.Native.Nat.{ℕ, _^_, _<_}
 use mathlib.Core.List.{List, [], _∷_, _++_}
 use lib.ListN.{getD}
-use Rattle.buffer.specs.Bytes.{u32Bytes}
+use Rattle.peek.specs.Bytes.{u32Bytes}
 
 -- the opcode of a select, which names the chain's address [W2]
 abbrev pub selectOp : ℕ

@@ -14,11 +14,11 @@ const NOT_DUE: u8 = 14;
 pub fn check_command(stream: &[u8], at: usize, op: u8) -> Verdict
     ensures { λ r. ⌜ r ≡ commandVerdict op at (drop at (now (stream .entry))) ⌝ }
 {
-    let rest = buffer::suffix(stream, at);
+    let rest = peek::suffix(stream, at);
     if rest.len() < COMMAND_SIZE {
         return Verdict::Refused(UNFINISHED, at);
     }
-    if buffer::byte_at(rest, 0) != op {
+    if peek::byte_at(rest, 0) != op {
         return Verdict::Refused(NOT_DUE, at);
     }
     Verdict::Accepted
@@ -28,5 +28,5 @@ pub fn check_command(stream: &[u8], at: usize, op: u8) -> Verdict
 pub fn number_at(stream: &[u8], at: usize) -> u32
     ensures { λ r. ⌜ r ≡ number (drop at (now (stream .entry))) ⌝ }
 {
-    buffer::u32_at(buffer::suffix(stream, at), 1)
+    peek::u32_at(peek::suffix(stream, at), 1)
 }

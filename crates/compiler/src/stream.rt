@@ -27,7 +27,7 @@ fn part_of<'a>(sheet: &'a [u8], found: Judged, section: usize) -> &'a [u8]
 {
     let starts = found.starts;
     let sizes = found.sizes;
-    buffer::prefix(buffer::suffix(sheet, starts[section]), sizes[section])
+    peek::prefix(peek::suffix(sheet, starts[section]), sizes[section])
 }
 
 // How many bytes the items of a section take up. There are at most 255 of them, and none has more than 1,024 bytes.
@@ -49,7 +49,7 @@ fn put_section(out: &mut [u8], at: usize, section: usize, part: &[u8]) -> usize
     let mut to = at;
     let mut from: usize = 0;
     while size <= part.len() - from {
-        let rec = buffer::prefix(buffer::suffix(part, from), size);
+        let rec = peek::prefix(peek::suffix(part, from), size);
         put_item(&mut out[to..], section, rec, &mut words);
         to += step;
         from += size;

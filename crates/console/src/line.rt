@@ -48,7 +48,7 @@ pub fn empty() -> Line {
 fn chance() -> u32 {
     let mut bytes = [0u8; 4];
     libc::getentropy(&mut bytes);
-    buffer::u32_at(&bytes, 0)
+    peek::u32_at(&bytes, 0)
 }
 
 // The arguments from `first` to last - 1.

@@ -20,7 +20,7 @@ pub fn open(line: Line, out: i32) -> i32 {
     }
     let mut path = [0u8; 4096];
     let length = put_beside(&mut path, line);
-    os::create(buffer::prefix(&path, length))
+    os::create(peek::prefix(&path, length))
 }
 
 // All was written to the descriptor, or not; answers how the run ends.
@@ -41,13 +41,13 @@ pub fn finish(is_written: bool, line: Line, fd: i32, err: i32) -> u8 {
 fn put_in_place(line: Line, err: i32) -> u8 {
     let mut path = io::buffer();
     let length = os::arg(line.output, &mut path);
-    if !is_replaceable(buffer::prefix(&path, length)) {
+    if !is_replaceable(peek::prefix(&path, length)) {
         remove(line);
         return say::not_regular(line.output, err);
     }
     let mut beside = [0u8; 4096];
     let size = put_beside(&mut beside, line);
-    if os::rename(buffer::prefix(&beside, size), buffer::prefix(&path, length)) != 0 {
+    if os::rename(peek::prefix(&beside, size), peek::prefix(&path, length)) != 0 {
         let error = os::errno();
         remove(line);
         return say::not_written(line.output, error, err);
@@ -69,13 +69,13 @@ fn is_replaceable(path: &[u8]) -> bool {
 fn remove(line: Line) {
     let mut beside = [0u8; 4096];
     let size = put_beside(&mut beside, line);
-    os::unlink(buffer::prefix(&beside, size));
+    os::unlink(peek::prefix(&beside, size));
 }
 
 // The name beside that of the file. One that does not fit is left without its end, and no file has it.
 fn put_beside(out: &mut [u8], line: Line) -> usize {
     let mut path = io::buffer();
     let length = os::arg(line.output, &mut path);
-    let a = buffer::put_at(out, 0, buffer::prefix(&path, length));
+    let a = buffer::put_at(out, 0, peek::prefix(&path, length));
     text::put_bits(out, a, b".voltamar-", line.tag, 8)
 }

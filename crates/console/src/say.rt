@@ -4,25 +4,40 @@ use crate::REFUSED;
 use crate::TROUBLE;
 use crate::file::is_standard;
 
-// Longer than any complaint without the name.
-const LINE: usize = 512;
+// Longer than any words on what stands at a place.
+const DETAIL: usize = 512;
+
+// A name has at most 4,096 bytes; with these a line fits (refusal/proofs/Theorems, `room-for-every-line`).
+const LINE: usize = 4096 + DETAIL + 128;
 
 // The sheet that argument `arg` names was refused.
 pub fn refused_sheet(arg: usize, sheet: &[u8], number: u8, place: usize, err: i32) -> u8 {
-    let mut line = [0u8; LINE];
-    let length = faults::put_sheet_refusal(&mut line, 0, sheet, number, place);
-    refused(arg, buffer::prefix(&line, length), err)
+    let mut detail = [0u8; DETAIL];
+    let length = faults::put_sheet_detail(&mut detail, 0, sheet, number, place);
+    refused(arg, number, place, peek::prefix(&detail, length), err)
 }
 
 // The stream that argument `arg` names was refused.
 pub fn refused_stream(arg: usize, stream: &[u8], number: u8, place: usize, err: i32) -> u8 {
-    let mut line = [0u8; LINE];
-    let length = stream_faults::put_stream_refusal(&mut line, 0, stream, number, place);
-    refused(arg, buffer::prefix(&line, length), err)
+    let mut detail = [0u8; DETAIL];
+    let length = stream_faults::put_stream_detail(&mut detail, 0, stream, number, place);
+    refused(arg, number, place, peek::prefix(&detail, length), err)
 }
 
-fn refused(arg: usize, line: &[u8], err: i32) -> u8 {
-    complain(arg, line, err);
+// The line is built whole, then printed.
+fn refused(arg: usize, number: u8, place: usize, detail: &[u8], err: i32) -> u8 {
+    let mut file = io::buffer();
+    let length = put_name(&mut file, arg);
+    let mut line = [0u8; LINE];
+    let end = refusal::put_line(
+        &mut line,
+        0,
+        peek::prefix(&file, length),
+        number,
+        place,
+        detail,
+    );
+    io::write_all(err, peek::prefix(&line, end));
     REFUSED
 }
 
@@ -87,24 +102,24 @@ pub fn terminal(err: i32) -> u8 {
     TROUBLE
 }
 
-// The argument itself, or its number where it is empty or too long to be a name; bytes that would break the line are question marks.
+// Writes the name of the file that an argument names.
 pub fn name(arg: usize, fd: i32) -> bool {
-    if is_standard(arg) {
-        return io::write_all(fd, b"standard input");
-    }
-    let mut path = io::buffer();
-    let length = os::arg(arg, &mut path);
-    if length == 0 {
-        return io::write_all(fd, b"argument ") && io::print_decimal(fd, arg as u64);
-    }
-    write_plain(buffer::prefix(&path, length), fd)
+    let mut name = io::buffer();
+    let length = put_name(&mut name, arg);
+    io::write_all(fd, peek::prefix(&name, length))
 }
 
-fn write_plain(bytes: &[u8], fd: i32) -> bool {
-    let mut copy = io::buffer();
-    buffer::put_bytes(&mut copy, bytes);
-    text::make_plain(&mut copy, 0xff);
-    io::write_all(fd, buffer::prefix(&copy, bytes.len()))
+// The argument itself, or its number where it is empty or too long to be a name; bytes that would break the line are question marks.
+fn put_name(out: &mut [u8], arg: usize) -> usize {
+    if is_standard(arg) {
+        return buffer::put_at(out, 0, b"standard input");
+    }
+    let length = os::arg(arg, out);
+    if length == 0 {
+        return text::put_number(out, 0, b"argument ", arg);
+    }
+    text::make_plain(out, 0xff);
+    length
 }
 
 // The sheet that argument `arg` names is accepted.

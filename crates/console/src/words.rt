@@ -4,7 +4,7 @@
 pub fn is_word(arg: usize, word: &[u8]) -> bool {
     let mut buf = [0u8; 16];
     let n = os::arg(arg, &mut buf);
-    buffer::same_bytes(&buf[..n], word)
+    peek::same_bytes(&buf[..n], word)
 }
 
 // Whether an argument asks for help.
@@ -20,7 +20,7 @@ pub fn is_help(arg: usize) -> bool {
 pub fn is_option(arg: usize) -> bool {
     let mut buf = io::buffer();
     let n = os::arg(arg, &mut buf);
-    if buffer::byte_at(&buf, 0) == b'-' {
+    if peek::byte_at(&buf, 0) == b'-' {
         n != 1
     } else {
         false

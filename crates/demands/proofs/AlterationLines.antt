@@ -8,9 +8,9 @@ use native.Mathlib.Omega.{arith}
 use lib.ListN.{getD}
 use Rattle.lut.specs.declared.Input.{Input}
 use Rattle.lut.specs.Telling.{HitAlike, TellsApart, NoneLess}
-use Rattle.buffer.specs.Bytes.{Bytes}
+use Rattle.peek.specs.Bytes.{Bytes}
 use Rattle.buffer.specs.declared.Verdict.the-variants.{Accepted}
-use Rattle.buffer.proofs.Numbers.{bytes-drop}
+use Rattle.peek.proofs.Numbers.{bytes-drop}
 use Rattle.kinds.specs.Change.{Says}
 use Rattle.kinds.specs.Table.{TERMS, SUMS, hitOf, changeOf}
 use Rattle.kinds.specs.declared.Change.the-variants.{Oper, Word, Altr}

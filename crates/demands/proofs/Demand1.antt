@@ -3,19 +3,19 @@
 -- of refusals. Assumes nothing.
 use Prim.Native.Nat.{ℕ, _<_}
 use mathlib.Core.Path.{_≡_, refl, ap, _∙_}
-use mathlib.Core.Bool.{Bool}
 use mathlib.Core.List.{List, [], _∷_}
 use mathlib.Core.Logic.{_↔_}
 use native.Mathlib.Omega.{arith}
+use borrow.Author.Tests.{ne-eqb}
 use lib.ListN.{length, drop}
-use Rattle.buffer.specs.Bytes.{Bytes}
+use Rattle.peek.specs.Bytes.{Bytes}
 use Rattle.buffer.specs.Room.{Reply, Delivered}
 use Rattle.buffer.specs.declared.Outcome.{Outcome}
 use Rattle.buffer.specs.declared.Outcome.the-variants as Outcome
 use Rattle.buffer.specs.declared.Verdict.the-variants as Verdict
 use Rattle.buffer.proofs.Writing.{kept-refused, kept-beyond}
-use Rattle.lut.specs.Answer.{ran, answerNumber, answerPlace}
-use Rattle.lut.proofs.Runs.{run-other}
+use Rattle.lut.specs.Answer.{answerNumber, answerPlace, RunNumbered}
+use Rattle.lut.specs.declared.Answer.{Answer}
 use Rattle.kinds.specs.Table.{sections, descriptionSize, Accepted, wordsOf, descriptionRead}
 use Rattle.kinds.proofs.Ways as ways
 use Rattle.sheet.specs.Reading.{verdict}
@@ -54,9 +54,9 @@ notice-answers-the-new old new out out′ r n p a e g =
     ∙ ap (λ v. answerOf Verdict.Accepted v (noticeText old new) (length out)) e
 
 -- chain words: 17 and the count needed, for every count but that one [D1.2, F17]
-pub model-answers-the-count : (needed : ℕ) (words : List ℕ) (hit : Bool) → (length words ≡ needed → ⊥)
-    → (answerNumber (ran needed words hit) ≡ 17) × (answerPlace (ran needed words hit) ≡ needed)
-model-answers-the-count n ws hit e = (ap answerNumber (run-other n ws hit e), ap answerPlace (run-other n ws hit e))
+pub model-answers-the-count : (needed : ℕ) (words : List ℕ) (r : Answer) → RunNumbered needed words r → (length words ≡ needed → ⊥)
+    → (answerNumber r ≡ 17) × (answerPlace r ≡ needed)
+model-answers-the-count n ws r h e = (h .number ∙ rw (ne-eqb _ _ e), h .place ∙ rw (ne-eqb _ _ e))
 
 -- 16: for every section, words are read as nothing exactly where no accepted description has them as its chain words
 -- [D1.2, F16]

@@ -7,7 +7,7 @@ use mathlib.Core.Logic.{_↔_}
 use native.Mathlib.Omega.{arith}
 use lib.ListN.{length, getD, take}
 use Rattle.lut.specs.Answer.{hitOrMiss}
-use Rattle.buffer.specs.Bytes.{Bytes}
+use Rattle.peek.specs.Bytes.{Bytes}
 use Rattle.buffer.specs.Room.{bytes, unless, outcome, Delivered}
 use Rattle.buffer.specs.declared.Outcome.{Outcome}
 use Rattle.buffer.specs.declared.Outcome.the-variants.{Done, Refused}

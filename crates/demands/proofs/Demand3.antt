@@ -11,7 +11,7 @@ use lib.Seq.{take-append-seam}
 use Rattle.lut.specs.declared.Input.{Input}
 use Rattle.lut.specs.Input.{Fits}
 use Rattle.lut.specs.Telling.{HitAlike, TellsApart, NoneLess}
-use Rattle.buffer.specs.Bytes.{Bytes}
+use Rattle.peek.specs.Bytes.{Bytes}
 use Rattle.buffer.specs.declared.Verdict.the-variants.{Accepted}
 use Rattle.range.specs.Description.{fromBytes}
 use Rattle.range_telling.specs.Matter.{DroppedWords}

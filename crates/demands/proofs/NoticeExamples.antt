@@ -6,10 +6,10 @@ use mathlib.Core.List.{List, [], _∷_, _++_}
 use lib.Count.{trailingZeros}
 use lib.Dec.{T}
 use lib.ListN.{replicate}
-use Rattle.buffer.specs.Bytes.{u32At}
+use Rattle.peek.specs.Bytes.{u32At}
 use Rattle.lines.specs.Line.{flipLine}
 use Rattle.lines.specs.Gather.{gathered, scattered, dropLowest}
-use Rattle.buffer.specs.Same.{same}
+use Rattle.peek.specs.Same.{same}
 use Rattle.records.specs.Sections.{fieldBytes, kindOf, mostOf, descriptionSize}
 use Rattle.records.specs.Records.{recordsFrom, find}
 use Rattle.sheet.specs.Parsed.{joined, render, sectionsFrom, parse}

@@ -11,7 +11,7 @@ use Rattle.lut.specs.declared.Input.the-variants.{Nothing}
 use Rattle.lut.specs.declared.Telling.{Telling}
 use Rattle.lut.specs.declared.Telling.the-variants.{Alike, Apart}
 use Rattle.lut.specs.Telling.{NoneLess, Least}
-use Rattle.buffer.specs.Bytes.{Bytes}
+use Rattle.peek.specs.Bytes.{Bytes}
 use Rattle.term.specs.Description as term
 use Rattle.term.proofs.Theorems as term-theorems
 use Rattle.term.proofs.Ways as term-ways

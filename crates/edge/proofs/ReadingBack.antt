@@ -6,16 +6,18 @@ use mathlib.Core.Bool.{Bool, true, false, cond, _&&_}
 use mathlib.Core.List.{List}
 use native.Mathlib.Omega.{arith}
 use lib.ListN.{length}
-use Rattle.buffer.specs.Same.{same}
-use Rattle.buffer.proofs.Compare.{same-refl, same-true, same-lengths}
+use Rattle.peek.specs.Same.{same}
+use Rattle.peek.proofs.Compare.{same-refl, same-true, same-lengths}
 use Rattle.lines.proofs.Truth.{both-true}
+use Rattle.lut.specs.Back.{ReadNumbered}
+use Rattle.lut.proofs.Numbers.{numbered-read, numbered-refused}
 use Rattle.edge.specs.declared.Edge.{Edge}
 use Rattle.edge.specs.declared.Event.the-variants.{Rise, Fall, Neither}
 use Rattle.edge.specs.declared.ReadEdge.{ReadEdge}
 use Rattle.edge.specs.declared.ReadEdge.the-variants as ReadEdge
-use Rattle.edge.specs.Rule.{edgeAccepted, EdgeAccepted}
-use Rattle.edge.specs.Words.{lowerTable, upperTable, edgeWords}
-use Rattle.edge.specs.Back.{SaysEdge, wishOf, readAs, readEdge}
+use Rattle.edge.specs.Rule.{edgeAccepted, EdgeAccepted, Accepted}
+use Rattle.edge.specs.Words.{lowerTable, upperTable, edgeWords, wordsOf}
+use Rattle.edge.specs.Back.{ReadMeans, wishOf, readAs, readEdge, readNumber, readPlace}
 use Rattle.edge.proofs.WordLaws.{words-length}
 use Rattle.edge.proofs.Wish.{wish-read, wish-lt}
 
@@ -43,8 +45,8 @@ read-short ws h = go (wishOf Rise ws) (wishOf Fall ws) (wishOf Neither ws)
         ∙ refused (edgeAccepted r f n) (ReadEdge.Edge r f n)
 
 -- what the answer says is so
-pub read-says : (ws : List ℕ) → SaysEdge ws (readEdge ws)
-read-says ws = go (edgeAccepted r f n && same ws (edgeWords r f n)) refl
+pub read-means : (ws : List ℕ) → ReadMeans ws (readEdge ws)
+read-means ws = go (edgeAccepted r f n && same ws (edgeWords r f n)) refl
   where
     r : ℕ
     r = wishOf Rise ws
@@ -55,7 +57,7 @@ read-says ws = go (edgeAccepted r f n && same ws (edgeWords r f n)) refl
     n : ℕ
     n = wishOf Neither ws
 
-    go : (b : Bool) → edgeAccepted r f n && same ws (edgeWords r f n) ≡ b → SaysEdge ws (cond b (ReadEdge.Edge r f n) ReadEdge.Refused)
+    go : (b : Bool) → edgeAccepted r f n && same ws (edgeWords r f n) ≡ b → ReadMeans ws (cond b (ReadEdge.Edge r f n) ReadEdge.Refused)
     go true e =
         let g = both-true (edgeAccepted r f n) (same ws (edgeWords r f n)) e in
         let w : ws ≡ edgeWords r f n = same-true ws (edgeWords r f n) (g .1) in
@@ -75,17 +77,28 @@ read-says ws = go (edgeAccepted r f n && same ws (edgeWords r f n)) refl
         let none : readEdge ws ≡ ReadEdge.Refused = ap (λ (b : Bool). cond b (ReadEdge.Edge r f n) ReadEdge.Refused) e in
         absurd (let z : _≡_ {A = ℕ} 0 1 = cc in omega arith)
 
+-- and an answer that says so has these numbers
+pub read-numbered : (ws : List ℕ) (x : ReadEdge) → ReadMeans ws x → ReadNumbered Accepted wordsOf ws (readNumber x) (readPlace x)
+read-numbered ws (ReadEdge.Edge r f n) says =
+    numbered-read Accepted wordsOf ws (record { rise = r; fall = f; neither = n }, (says .accepted, says .written))
+read-numbered ws ReadEdge.Refused none =
+    numbered-refused Accepted wordsOf ws
+    (λ x. none (x .0 .rise) (x .0 .fall) (x .0 .neither) (record { accepted = x .1 .0; written = x .1 .1 }))
+
 -- as the code meets it: the candidate r f n, what the tests say of it, and the answer
 module _ (ws : List ℕ) (x : ReadEdge) where
-  pub read-meets : x ≡ readEdge ws → (x ≡ readEdge ws) × SaysEdge ws x
-  read-meets e = (e, rw e (read-says ws))
+  abbrev pub Meets : Type 0
+  Meets = (x ≡ readEdge ws) × (ReadMeans ws x × ReadNumbered Accepted wordsOf ws (readNumber x) (readPlace x))
 
-  pub read-other : (length ws ≡ 8 → ⊥) → x ≡ ReadEdge.Refused → (x ≡ readEdge ws) × SaysEdge ws x
+  pub read-meets : x ≡ readEdge ws → Meets
+  read-meets e = let says : ReadMeans ws x = rw e (read-means ws) in (e, (says, read-numbered ws x says))
+
+  pub read-other : (length ws ≡ 8 → ⊥) → x ≡ ReadEdge.Refused → Meets
   read-other h e = read-meets (e ∙ sym (read-short ws h))
 
   module _ (r f n : ℕ) (hr : r ≡ wishOf Rise ws) (hf : f ≡ wishOf Fall ws) (hn : n ≡ wishOf Neither ws) where
     pub read-candidate : (ok same-words : Bool) → edgeAccepted r f n ≡ ok → same ws (edgeWords r f n) ≡ same-words
-        → x ≡ cond (ok && same-words) (ReadEdge.Edge r f n) ReadEdge.Refused → (x ≡ readEdge ws) × SaysEdge ws x
+        → x ≡ cond (ok && same-words) (ReadEdge.Edge r f n) ReadEdge.Refused → Meets
     read-candidate ok b p q e =
         read-meets
         (e ∙ ap₂ (λ (a b : Bool). cond (a && b) (ReadEdge.Edge r f n) ReadEdge.Refused) (sym p) (sym q) ∙ same-candidate ws hr hf hn)

@@ -3,14 +3,14 @@ use Prim.Native.Nat.{ℕ}
 use mathlib.Core.Path.{_≡_, refl, sym, ap, _∙_}
 use mathlib.Core.List.{List, [], _∷_}
 use mathlib.Core.Logic.{_↔_}
-use native.Mathlib.Omega.{arith}
 use lib.Dec.{lit<}
 use lib.ListN.{length}
-use Rattle.buffer.specs.Bytes.{Bytes}
-use Rattle.buffer.specs.Fields.{fieldBytes}
-use Rattle.buffer.proofs.FieldLaws.{fields-read, fields-written, fit₃, same₃}
+use Rattle.peek.specs.Bytes.{Bytes}
+use Rattle.peek.specs.Fields.{fieldBytes}
+use Rattle.peek.proofs.FieldLaws.{fields-read, fields-written, fit₃, same₃}
 use Rattle.edge.specs.Description.{size, fromBytes, toBytes}
 use Rattle.lut.specs.Answer.{hitOrMiss}
+use Rattle.lut.specs.Back.{Written}
 use Rattle.lut.specs.Telling.{HitAlike, Says}
 use Rattle.lut.specs.declared.Input.the-variants.{Samples}
 use Rattle.lut.proofs.Asked.{alike-on-pairs}
@@ -21,11 +21,11 @@ use Rattle.edge.specs.declared.ReadEdge.the-variants as ReadEdge
 use Rattle.edge.specs.Rule.{hitOf, hit, Accepted}
 use Rattle.edge.specs.Words.{wordsOf}
 use Rattle.edge.specs.Model.{wordsHit, runEdge}
-use Rattle.edge.specs.Back.{readEdge, SaysEdge}
+use Rattle.edge.specs.Back.{readEdge, readNumber}
 use Rattle.edge.specs.Telling.{edgeTelling}
 use Rattle.edge.proofs.WordLaws.{words-length}
 use Rattle.edge.proofs.Hits.{model-law}
-use Rattle.edge.proofs.ReadingBack.{read-written, read-says}
+use Rattle.edge.proofs.ReadingBack.{read-written, read-means, read-numbered}
 use Rattle.edge.proofs.TellApart as apart
 
 -- over an edge's words the model hits exactly when the plain rule does [D2.4]
@@ -38,18 +38,14 @@ pub words-read-back : (d : Edge) → Accepted d → readEdge (wordsOf d) ≡ Rea
 words-read-back d = read-written (d .rise) (d .fall) (d .neither)
 
 -- words are refused unless an accepted edge writes them [C5, F16, D2.6]
-pub accepted-iff-written : (words : List ℕ) → (readEdge words ≡ ReadEdge.Refused → ⊥) ↔ ((d : Edge) × (Accepted d × (words ≡ wordsOf d)))
-accepted-iff-written ws = (λ n. go (readEdge ws) n (read-says ws), back)
+pub accepted-iff-written : (words : List ℕ) → (readEdge words ≡ ReadEdge.Refused → ⊥) ↔ Written Accepted wordsOf words
+accepted-iff-written ws =
+    let numbered = read-numbered ws (readEdge ws) (read-means ws) in
+    (λ n. numbered .read .0 (unrefused (readEdge ws) n), λ w e. numbered .refused .0 (ap readNumber e) w)
   where
-    go : (x : ReadEdge) → (x ≡ ReadEdge.Refused → ⊥) → SaysEdge ws x → (d : Edge) × (Accepted d × (ws ≡ wordsOf d))
-    go (ReadEdge.Edge rise fall neither) n says = (record { rise = rise; fall = fall; neither = neither }, (says .accepted, says .written))
-    go ReadEdge.Refused n says = absurd (n refl)
-
-    back : ((d : Edge) × (Accepted d × (ws ≡ wordsOf d))) → readEdge ws ≡ ReadEdge.Refused → ⊥
-    back (d, (a, w)) e =
-        let x : ReadEdge.Edge (d .rise) (d .fall) (d .neither) ≡ ReadEdge.Refused = sym (ap readEdge w ∙ words-read-back d a) ∙ e in
-        let z : _≡_ {A = ℕ} 0 1 = cc in
-        omega arith
+    unrefused : (r : ReadEdge) → (r ≡ ReadEdge.Refused → ⊥) → readNumber r ≡ 0
+    unrefused (ReadEdge.Edge rise fall neither) n = refl
+    unrefused ReadEdge.Refused n = absurd (n refl)
 
 module _ (a b : Edge) (p : Accepted a) (q : Accepted b) where
   -- two edges have the same chain words exactly when no two samples tell them apart [D3.2]

@@ -9,19 +9,19 @@ use native.Mathlib.Nat.{not-suc-le-zero}
 use native.Mathlib.Omega.{arith}
 use lib.Dec.{lit<}
 use lib.ListN.{length, getD}
-use Rattle.buffer.specs.Bytes.{Bytes}
-use Rattle.buffer.specs.Fields.{fieldOf, fieldBytes, Writes}
+use Rattle.peek.specs.Bytes.{Bytes}
+use Rattle.peek.specs.Fields.{fieldOf, fieldBytes, Writes}
 use Rattle.buffer.proofs.Faults.{unless-none}
-use Rattle.buffer.proofs.Numbers.{u32-small}
-use Rattle.buffer.proofs.FieldLaws.{fields-bytes, fields-read, fit₃, same₃}
+use Rattle.peek.proofs.Numbers.{u32-small}
+use Rattle.peek.proofs.FieldLaws.{fields-bytes, fields-read, fit₃, same₃}
 use Rattle.edge.specs.declared.Edge.{Edge}
 use Rattle.edge.specs.declared.ReadEdge.{ReadEdge}
 use Rattle.edge.specs.declared.ReadEdge.the-variants as ReadEdge
 use Rattle.edge.specs.Rule.{edgeAccepted, Accepted}
 use Rattle.edge.specs.Words.{edgeWords}
-use Rattle.edge.specs.Back.{readEdge, SaysEdge}
+use Rattle.edge.specs.Back.{readEdge, ReadMeans}
 use Rattle.edge.specs.Description.{size, fromBytes, fault, words, bytesRead, back}
-use Rattle.edge.proofs.ReadingBack.{read-says}
+use Rattle.edge.proofs.ReadingBack.{read-means}
 use Rattle.edge.proofs.WordLaws.{words-length, words-lt}
 use Rattle.edge.proofs.Theorems.{words-read-back, bytes-inverse}
 
@@ -54,7 +54,7 @@ pub back-words : (d : List ℕ) → Bytes d → length d ≡ size → fault d �
 unfolding back words fieldBytes
 back-words d h l f = ap bytesRead (words-read-back (fromBytes d) (accepted d h f)) ∙ bytes-inverse d h l
 
-read-writes : (ws : List ℕ) (r : ReadEdge) → SaysEdge ws r → 0 < length (bytesRead r) → Writes size fault words ws (bytesRead r)
+read-writes : (ws : List ℕ) (r : ReadEdge) → ReadMeans ws r → 0 < length (bytesRead r) → Writes size fault words ws (bytesRead r)
 unfolding words fieldBytes
 read-writes ws (ReadEdge.Edge r f n) w h =
     let read = fields-read (r ∷ f ∷ n ∷ []) (fit₃ r f n (w .accepted .rise-fits) (w .accepted .fall-fits) (w .accepted .neither-fits)) in
@@ -71,7 +71,7 @@ read-writes ws ReadEdge.Refused w h = absurd (not-suc-le-zero h)
 
 pub back-writes : (ws : List ℕ) → 0 < length (back ws) → Writes size fault words ws (back ws)
 unfolding back
-back-writes ws h = read-writes ws (readEdge ws) (read-says ws) h
+back-writes ws h = read-writes ws (readEdge ws) (read-means ws) h
 
 pub words-fit : (d : List ℕ) (i : ℕ) → getD (words d) i 0 < 2 ^ 32
 unfolding words

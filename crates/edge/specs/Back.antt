@@ -1,11 +1,14 @@
 -- The way back: the edge that writes given chain words, if an accepted one does.
+-- A procedure, not a meaning: nothing that is marked computed has to be believed. What it answers is pinned by
+-- `ReadMeans` below: read-means in proofs/ReadingBack, words-read-back and accepted-iff-written in proofs/Theorems
+-- [C5, D2.5, D2.6].
 use Prim.Native.Nat.{ℕ, _+_, _*_}
 use mathlib.Core.Path.{_≡_}
 use mathlib.Core.Bool.{cond, _&&_}
 use mathlib.Core.List.{List, [], _∷_}
 use lib.Bits.{bitAnd}
 use lib.Dec.{eqb}
-use Rattle.buffer.specs.Same.{same}
+use Rattle.peek.specs.Same.{same}
 use Rattle.lut.specs.Table.{high, low, oneIf}
 use Rattle.edge.specs.declared.Event.{Event}
 use Rattle.edge.specs.declared.Event.the-variants.{Rise, Fall, Neither}
@@ -20,9 +23,9 @@ pub record WrittenBy (words : List ℕ) (rise fall neither : ℕ) : Type 0 where
   pub written : words ≡ edgeWords rise fall neither
 
 -- what an answer says: this accepted edge writes the words, or none does [C5, C6, F16]
-abbrev pub SaysEdge : List ℕ → ReadEdge → Type 0
-SaysEdge ws (Edge r f n) = WrittenBy ws r f n
-SaysEdge ws Refused = (r f n : ℕ) → WrittenBy ws r f n → ⊥
+abbrev pub ReadMeans : List ℕ → ReadEdge → Type 0
+ReadMeans ws (Edge r f n) = WrittenBy ws r f n
+ReadMeans ws Refused = (r f n : ℕ) → WrittenBy ws r f n → ⊥
 
 -- computed: 1 where the table has all the ones of an event's table [B6, C5]
 unfoldable pub covers : (table wish : ℕ) → ℕ
@@ -46,6 +49,15 @@ wishOf t ws = wishFrom (upperTable t) (lowerTable t) ws 0
 abbrev pub readAs : List ℕ → (rise fall neither : ℕ) → ReadEdge
 readAs ws r f n = cond (edgeAccepted r f n && same ws (edgeWords r f n)) (Edge r f n) Refused
 
--- computed: the one candidate, each event's lines read off the words; see SaysEdge, theorem read-says [B6, C5, F16]
+-- computed: the one candidate, each event's lines read off the words; see ReadMeans, theorem read-means [B6, C5, F16]
 abbrev pub readEdge : List ℕ → ReadEdge
 readEdge ws = readAs ws (wishOf Rise ws) (wishOf Fall ws) (wishOf Neither ws)
+
+-- the refusal number for each answer: 16 where no accepted edge writes the words, 0 for an edge [A5, F16]
+abbrev pub readNumber : ReadEdge → ℕ
+readNumber (Edge r f n) = 0
+readNumber Refused = 16
+
+-- its place, counted from the item's own first byte, where its select stands [A5, F16]
+abbrev pub readPlace : ReadEdge → ℕ
+readPlace r = 0

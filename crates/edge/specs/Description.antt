@@ -3,7 +3,7 @@ use Prim.Native.Nat.{ℕ}
 use mathlib.Core.List.{List, [], _∷_}
 use Rattle.lut.specs.declared.Telling.{Telling}
 use Rattle.buffer.specs.Verdict.{faultUnless}
-use Rattle.buffer.specs.Fields.{fieldOf, fieldBytes}
+use Rattle.peek.specs.Fields.{fieldOf, fieldBytes}
 use Rattle.edge.specs.declared.Edge.{Edge}
 use Rattle.edge.specs.declared.ReadEdge.{ReadEdge}
 use Rattle.edge.specs.declared.ReadEdge.the-variants as ReadEdge
@@ -37,7 +37,7 @@ abbrev pub bytesRead : ReadEdge → List ℕ
 bytesRead (ReadEdge.Edge rise fall neither) = toBytes (record { rise = rise; fall = fall; neither = neither })
 bytesRead ReadEdge.Refused = []
 
--- computed: the description that words are read as, no bytes if there is none; theorem read-says [B6, B7, C5, F16]
+-- computed: the description that words are read as, no bytes if there is none; theorem read-means [B6, B7, C5, F16]
 unfoldable pub back : List ℕ → List ℕ
 back ws = bytesRead (readEdge ws)
 

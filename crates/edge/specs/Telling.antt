@@ -1,9 +1,10 @@
 -- Two samples that tell two accepted edges apart (*telling sample* is the buyer's term), as they are computed: on each
 -- line where one asks for an event and the other does not, show that event; on every other line show something that the
--- other does not ask for, which there is, since no line asks for all three. What the answer means is lut's `Says`,
--- theorem telling-says.
+-- other does not ask for, which there is, since no line asks for all three.
+-- A procedure, not a meaning: nothing here has to be believed. What it answers is pinned by lut's `Says`: telling-says
+-- in proofs/Theorems [D3.6].
 use Prim.Native.Nat.{ℕ}
-use mathlib.Core.Bool.{Bool, cond}
+use mathlib.Core.Bool.{cond}
 use lib.Bits.{bitAnd, bitOr, bitXor}
 use lib.Dec.{eqb}
 use Rattle.lut.specs.declared.Telling.{Telling}

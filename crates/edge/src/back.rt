@@ -2,7 +2,10 @@
 ghost use mathlib.Core.Path.{_≡_};
 ghost use Prim.Native.Nat.{_<_};
 ghost use lib.ListN.{length};
-ghost use Rattle.edge.specs.Back.{covers, wordWish, wishFrom, readEdge, SaysEdge};
+ghost use Rattle.lut.specs.Back.{ReadNumbered};
+ghost use Rattle.edge.specs.Rule.{Accepted};
+ghost use Rattle.edge.specs.Words.{wordsOf};
+ghost use Rattle.edge.specs.Back.{covers, wordWish, wishFrom, readEdge, ReadMeans, readNumber, readPlace};
 use crate::Edge;
 use crate::ReadEdge;
 use crate::rule::edge_accepted;
@@ -48,7 +51,8 @@ fn gather_wish(words: &[u32], upper: u32, lower: u32) -> u32
 // The description that writes these words, if an accepted one does.
 pub fn read_edge(words: &[u32]) -> ReadEdge
     ensures { λ r. ⌜ r ≡ readEdge (now (words .entry)) ⌝ }
-    ensures meaning { λ r. ⌜ SaysEdge (now (words .entry)) r ⌝ }
+    ensures meaning { λ r. ⌜ ReadMeans (now (words .entry)) r ⌝ }
+    ensures { λ r. ⌜ ReadNumbered Accepted wordsOf (now (words .entry)) (readNumber r) (readPlace r) ⌝ }
 {
     if words.len() != 8 {
         return ReadEdge::Refused;
@@ -60,7 +64,7 @@ pub fn read_edge(words: &[u32]) -> ReadEdge
         return ReadEdge::Refused;
     }
     let again = edge_words(rise, fall, neither);
-    if buffer::same_words(words, &again) {
+    if peek::same_words(words, &again) {
         ReadEdge::Edge(rise, fall, neither)
     } else {
         ReadEdge::Refused

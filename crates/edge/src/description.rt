@@ -15,9 +15,9 @@ fn from_bytes(bytes: &[u8]) -> Edge
     ensures { λ r. ⌜ r ≡ description.fromBytes (now (bytes .entry)) ⌝ }
 {
     Edge {
-        rise: buffer::field(bytes, 0),
-        fall: buffer::field(bytes, 1),
-        neither: buffer::field(bytes, 2),
+        rise: peek::field(bytes, 0),
+        fall: peek::field(bytes, 1),
+        neither: peek::field(bytes, 2),
     }
 }
 

@@ -14,10 +14,7 @@ pub use description::put_back;
 pub use description::put_words;
 pub use description::telling_of;
 pub use model::run_edge;
-pub use rule::edge_accepted;
 pub use rule::edge_hit;
-pub use telling::edge_telling;
-pub use words::edge_words;
 
 // A description: the lines on which a rise, a fall, or neither of the two is asked for.
 pub struct Edge {

@@ -1,6 +1,7 @@
 // The model: any eight words, run on an earlier and a later sample.
 ghost use mathlib.Core.Path.{_≡_};
 ghost use Prim.Native.Nat.{_<_};
+ghost use Rattle.lut.specs.Answer.{RunNumbered};
 ghost use Rattle.edge.specs.Model.{tableHit, wordHit, runEdge};
 
 // Whether a table answers 1 for the lines 2 * pair + 1 and 2 * pair.
@@ -25,6 +26,7 @@ fn word_hit(k: u32, word: u32, earlier: u32, later: u32) -> bool
 // The model: a hit when any table of the eight words answers 1.
 pub fn run_edge(words: &[u32], earlier: u32, later: u32) -> lut::Answer
     ensures { λ r. ⌜ r ≡ runEdge (now (words .entry)) earlier later ⌝ }
+    ensures { λ r. ⌜ RunNumbered 8 (now (words .entry)) r ⌝ }
 {
     if words.len() != 8 {
         return lut::Answer::WrongCount(8);

@@ -21,7 +21,7 @@ pub fn edge_hit(rise: u32, fall: u32, neither: u32, earlier: u32, later: u32) ->
 }
 
 // Whether the wishes of every line may stand in a sheet.
-pub fn edge_accepted(rise: u32, fall: u32, neither: u32) -> bool
+pub(crate) fn edge_accepted(rise: u32, fall: u32, neither: u32) -> bool
     ensures { λ r. ⌜ r ≡ edgeAccepted rise fall neither ⌝ }
 {
     neither & (rise | fall) == 0

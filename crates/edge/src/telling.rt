@@ -42,7 +42,7 @@ fn tell_one(a: Edge, b: Edge) -> Telling
 }
 
 // Samples that tell two accepted descriptions apart, or that there are none.
-pub fn edge_telling(old: Edge, new: Edge) -> Telling
+pub(crate) fn edge_telling(old: Edge, new: Edge) -> Telling
     ensures { λ r. ⌜ r ≡ edgeTelling old new ⌝ }
     ensures meaning { λ r. ⌜ (Accepted old → Accepted new → Says (hit old) (hit new) r) ⌝ }
 {

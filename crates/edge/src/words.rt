@@ -38,7 +38,7 @@ fn word_at(k: u32, rise: u32, fall: u32, neither: u32) -> u32
 }
 
 // The eight chain words of a description, in sending order.
-pub fn edge_words(rise: u32, fall: u32, neither: u32) -> [u32; 8]
+pub(crate) fn edge_words(rise: u32, fall: u32, neither: u32) -> [u32; 8]
     ensures { λ r. ⌜ r ≡ edgeWords rise fall neither ⌝ }
 {
     let mut words = [0u32; 8];

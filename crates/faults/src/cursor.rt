@@ -27,7 +27,7 @@ pub fn next(sheet: &[u8], here: Cursor, end: usize) -> Cursor
     ensures { λ r. ⌜ end - r .at ≤ end - here .at - 1 ⌝ }
 {
     if here.record == 0 {
-        let count = buffer::byte_at(sheet, here.at) as usize;
+        let count = peek::byte_at(sheet, here.at) as usize;
         return entered(here.section, count, ahead(here.at, 1, end));
     }
     let at = ahead(here.at, record_size(here.section), end);

@@ -18,12 +18,12 @@ pub(crate) fn put_record(
     here: Cursor,
 ) -> usize {
     let size = record_size(here.section);
-    let rest = buffer::suffix(sheet, here.at);
+    let rest = peek::suffix(sheet, here.at);
     let a = put_number(out, at, b", record ", here.record);
     if number == INCOMPLETE {
         return put_incomplete(out, a, rest.len(), size);
     }
-    let record = buffer::prefix(rest, size);
+    let record = peek::prefix(rest, size);
     let b = put_slot(out, a, record);
     if number == SLOT_NOT_RISING {
         return put_not_rising(out, b, sheet, here.at, size);
@@ -47,16 +47,11 @@ fn put_slot(out: &mut [u8], at: usize, record: &[u8]) -> usize {
 // The slot of the record at `place` is not above that of the one before it.
 fn put_not_rising(out: &mut [u8], at: usize, sheet: &[u8], place: usize, size: usize) -> usize {
     let before = if place < size { 0 } else { place - size };
-    let a = put_number(
-        out,
-        at,
-        b"slot ",
-        slot(buffer::suffix(sheet, place)) as usize,
-    );
+    let a = put_number(out, at, b"slot ", slot(peek::suffix(sheet, place)) as usize);
     put_number(
         out,
         a,
         b" after slot ",
-        slot(buffer::suffix(sheet, before)) as usize,
+        slot(peek::suffix(sheet, before)) as usize,
     )
 }

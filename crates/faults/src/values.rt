@@ -36,13 +36,7 @@ fn put_slot_value(out: &mut [u8], at: usize, slot: usize, most: usize) -> usize 
 fn put_label_byte(out: &mut [u8], at: usize, label: &[u8]) -> usize {
     let i = first_outside(label, 0x20, 0x7e);
     let a = put_number(out, at, b"label byte ", i);
-    let b = put_bits(
-        out,
-        a,
-        b" (from 0) is ",
-        buffer::byte_at(label, i) as u32,
-        2,
-    );
+    let b = put_bits(out, a, b" (from 0) is ", peek::byte_at(label, i) as u32, 2);
     buffer::put_at(out, b, b" hex, where 20 to 7E may stand")
 }
 
@@ -62,18 +56,18 @@ fn first_outside(bytes: &[u8], low: u8, high: u8) -> usize {
 }
 
 fn put_bounds(out: &mut [u8], at: usize, description: &[u8]) -> usize {
-    let a = put_number(out, at, b"lower ", buffer::u32_at(description, 0) as usize);
+    let a = put_number(out, at, b"lower ", peek::u32_at(description, 0) as usize);
     put_number(
         out,
         a,
         b", where upper is ",
-        buffer::u32_at(description, 4) as usize,
+        peek::u32_at(description, 4) as usize,
     )
 }
 
 fn put_upper(out: &mut [u8], at: usize, description: &[u8]) -> usize {
-    let lines = u32::count_ones(buffer::u32_at(description, 8));
-    let a = put_number(out, at, b"upper ", buffer::u32_at(description, 4) as usize);
+    let lines = u32::count_ones(peek::u32_at(description, 8));
+    let a = put_number(out, at, b"upper ", peek::u32_at(description, 4) as usize);
     if lines == 0 {
         return buffer::put_at(out, a, b", where no line is masked");
     }
@@ -123,9 +117,9 @@ fn greatest(lines: u32) -> usize {
 }
 
 fn put_events(out: &mut [u8], at: usize, description: &[u8]) -> usize {
-    let rise = buffer::u32_at(description, 0);
-    let fall = buffer::u32_at(description, 4);
-    let neither = buffer::u32_at(description, 8);
+    let rise = peek::u32_at(description, 0);
+    let fall = peek::u32_at(description, 4);
+    let neither = peek::u32_at(description, 8);
     let a = put_bits(out, at, b"rise ", rise, 8);
     let b = put_bits(out, a, b", fall ", fall, 8);
     let c = put_bits(out, b, b", neither ", neither, 8);
@@ -150,6 +144,6 @@ fn put_operation(out: &mut [u8], at: usize, operations: &[u8]) -> usize {
     let i = first_outside(operations, 0, 9);
     let a = buffer::put_at(out, at, b"operation ");
     let b = put_trimmed(out, a, &text::stage_name(i));
-    let c = put_number(out, b, b" is ", buffer::byte_at(operations, i) as usize);
+    let c = put_number(out, b, b" is ", peek::byte_at(operations, i) as usize);
     buffer::put_at(out, c, b", where 9 is the greatest")
 }

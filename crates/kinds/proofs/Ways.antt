@@ -9,9 +9,9 @@ use native.Mathlib.Omega.{arith}
 use lib.Dec.{lit<, lit≤}
 use lib.ListN.{length, getD, take, drop, replicate, length-drop, length-take, take-append-drop, drop-of-length-le}
 use lib.Seq.{take-all, length-take-le}
-use Rattle.buffer.specs.Bytes.{Bytes}
-use Rattle.buffer.specs.Fields.{fieldOf, Writes}
-use Rattle.buffer.proofs.Numbers.{u32-small}
+use Rattle.peek.specs.Bytes.{Bytes}
+use Rattle.peek.specs.Fields.{fieldOf, Writes}
+use Rattle.peek.proofs.Numbers.{u32-small}
 use mathlib.Core.Logic.{_↔_}
 use Rattle.lut.specs.Telling as lut
 use Rattle.lut.specs.Telling.{HitAlike}

@@ -2,4 +2,5 @@ pub mod Halves
 pub mod Tables
 pub mod Down
 pub mod Runs
+pub mod Numbers
 pub mod Asked

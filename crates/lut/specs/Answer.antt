@@ -1,6 +1,7 @@
 -- What the model answers for any lent words.
 use mathlib.Core.Bool.{Bool, cond}
 use mathlib.Core.List.{List}
+use mathlib.Core.Path.{_≡_}
 use Prim.Native.Nat.{ℕ}
 use lib.Dec.{eqb}
 use lib.ListN.{length}
@@ -32,3 +33,8 @@ abbrev pub answerHit : Answer → ℕ
 answerHit Hit = 1
 answerHit Miss = 0
 answerHit (WrongCount needed) = 0
+
+-- the answer in numbers: 17 and the count needed for any other count of words, else 0 and 0 [A5, F17]
+pub record RunNumbered (needed : ℕ) (words : List ℕ) (r : Answer) : Type 0 where
+  pub number : answerNumber r ≡ cond (eqb (length words) needed) 0 17
+  pub place : answerPlace r ≡ cond (eqb (length words) needed) 0 needed

@@ -6,6 +6,7 @@ use mathlib.Core.List.{List, [], _++_}
 use lib.Dec.{leb}
 use lib.ListN.{length, getD}
 use Rattle.buffer.specs.Room.{fill}
+use Rattle.buffer.specs.Verdict.{isAccepted, verdictNumber, verdictPlace}
 use Rattle.buffer.specs.declared.Verdict.{Verdict}
 use Rattle.buffer.specs.declared.Verdict.the-variants.{Accepted, Refused}
 use Rattle.records.specs.Sections.{sections, mostOf}
@@ -74,3 +75,17 @@ noticedPlace (Done length) = length
 noticedPlace (Old number place) = place
 noticedPlace (New number place) = place
 noticedPlace (Short needed) = needed
+
+-- of three numbers the old sheet's if it is refused, else the new one's if that is, else the third [O4, A4]
+abbrev pub firstRefused : (old new : Verdict) (ofOld ofNew ofNeither : ℕ) → ℕ
+firstRefused old new ofOld ofNew ofNeither = cond (isAccepted old) (cond (isAccepted new) ofNeither ofNew) ofOld
+
+-- the answer in numbers: the refusal's, of sheet 1 or 2, else 12 and the bytes needed, else 0 and the length written
+-- [A4, A5, A6, O4, O7, F12]
+pub record NoticeNumbered (old new : List ℕ) (room : ℕ) (r : Noticed) : Type 0 where
+  pub number : noticedNumber r
+      ≡ firstRefused (verdict old) (verdict new) (verdictNumber (verdict old)) (verdictNumber (verdict new))
+      (cond (leb (length (noticeText old new)) room) 0 12)
+  pub which : noticedWhich r ≡ firstRefused (verdict old) (verdict new) 1 2 0
+  pub place : noticedPlace r
+      ≡ firstRefused (verdict old) (verdict new) (verdictPlace (verdict old)) (verdictPlace (verdict new)) (length (noticeText old new))

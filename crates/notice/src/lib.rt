@@ -4,7 +4,8 @@
 mod put;
 mod text;
 
-ghost use Rattle.notice.specs.Notice.{NoticeGiven};
+ghost use lib.ListN.{length};
+ghost use Rattle.notice.specs.Notice.{NoticeGiven, NoticeNumbered};
 use kinds::Change;
 
 // The most bytes that a notice has (proofs/Lengths, at-most): the room in which it is built before its length is known.
@@ -42,6 +43,7 @@ pub enum Noticed {
 // all of it is.
 pub fn notice(old: &[u8], new: &[u8], out: &mut [u8]) -> Noticed
     ensures { λ r. ⌜ NoticeGiven (now (old .entry)) (now (new .entry)) (now (out .entry)) r (now (out .exit)) ⌝ }
+    ensures { λ r. ⌜ NoticeNumbered (now (old .entry)) (now (new .entry)) (length (now (out .entry))) r ⌝ }
 {
     let first = sheet::judge_parts(old);
     if first.refusal != 0 {

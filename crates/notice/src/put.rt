@@ -4,13 +4,15 @@ ghost use Prim.Native.Nat.{_+_, _≤_};
 ghost use lib.ListN.{length};
 ghost use Rattle.buffer.specs.Room.{Wrote};
 ghost use Rattle.buffer.specs.declared.Verdict.the-variants.{Accepted};
+ghost use Rattle.kinds.specs.Table.{changeOf};
 ghost use Rattle.records.specs.Sections.{mostOf};
 ghost use Rattle.sheet.specs.Parts.{judgedOf};
 ghost use Rattle.sheet.specs.Reading.{verdict};
 ghost use Rattle.records.specs.Records.{recordsIn};
 ghost use Rattle.sheet.specs.Parsed.{Ordered};
 ghost use Rattle.notice.specs.Text.{renderAll};
-ghost use Rattle.notice.specs.Findings.{unlessSame, sharedLines, slotLines};
+ghost use Rattle.notice.specs.declared.Finding.the-variants.{Changed};
+ghost use Rattle.notice.specs.Findings.{line, unlessSame, sharedLines, slotLines};
 ghost use Rattle.notice.specs.Notice.{linesFrom, noticeText};
 use crate::Finding;
 use crate::Line;
@@ -23,11 +25,27 @@ fn put_unless_same(out: &mut [u8], at: usize, old: &[u8], new: &[u8], line: Line
     requires { ⌜ at + length (renderAll (unlessSame (now old) (now new) line)) ≤ length (now out) ⌝ }
     ensures { λ r. ⌜ Wrote at (renderAll (unlessSame (now (old .entry)) (now (new .entry)) line)) (now (out .entry)) (now (out .exit)) r ⌝ }
 {
-    if buffer::same_bytes(old, new) {
+    if peek::same_bytes(old, new) {
         at
     } else {
         put_line(out, at, line)
     }
+}
+
+// The line of a description, unless two have the same bytes. What changed is asked only where they differ.
+fn put_changed(out: &mut [u8], at: usize, section: usize, slot: u8, old: &[u8], new: &[u8]) -> usize
+    requires { ⌜ at + length (renderAll (unlessSame (now old) (now new) (line section slot (Changed (changeOf section (now old) (now new)))))) ≤ length (now out) ⌝ }
+    ensures { λ r. ⌜ Wrote at (renderAll (unlessSame (now (old .entry)) (now (new .entry)) (line section slot (Changed (changeOf section (now (old .entry)) (now (new .entry))))))) (now (out .entry)) (now (out .exit)) r ⌝ }
+{
+    if peek::same_bytes(old, new) {
+        return at;
+    }
+    let line = Line {
+        section,
+        slot,
+        finding: Finding::Changed(kinds::change_of(section, old, new)),
+    };
+    put_line(out, at, line)
 }
 
 // The lines of a slot that both sheets have: of its label, then of its description.
@@ -43,12 +61,7 @@ fn put_shared(out: &mut [u8], at: usize, section: usize, slot: u8, old: &[u8], n
     let next = put_unless_same(out, at, records::label(old), records::label(new), name);
     let old_description = records::description(old);
     let new_description = records::description(new);
-    let change = Line {
-        section,
-        slot,
-        finding: Finding::Changed(kinds::change_of(section, old_description, new_description)),
-    };
-    put_unless_same(out, next, old_description, new_description, change)
+    put_changed(out, next, section, slot, old_description, new_description)
 }
 
 // The lines of a slot. An empty part stands for a sheet that has no such slot.
@@ -117,14 +130,8 @@ pub(crate) fn put_sections(
     let mut at: usize = 0;
     let mut section: usize = 0;
     while section < SECTIONS {
-        let a = buffer::prefix(
-            buffer::suffix(old, olds.starts[section]),
-            olds.sizes[section],
-        );
-        let b = buffer::prefix(
-            buffer::suffix(new, news.starts[section]),
-            news.sizes[section],
-        );
+        let a = peek::prefix(peek::suffix(old, olds.starts[section]), olds.sizes[section]);
+        let b = peek::prefix(peek::suffix(new, news.starts[section]), news.sizes[section]);
         at = put_section(out, at, section, a, b);
         section += 1;
     }

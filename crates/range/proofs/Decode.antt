@@ -12,20 +12,22 @@ use lib.ListN.{length, take, drop}
 use lib.Pow.{pow-pos}
 use Rattle.lines.specs.Line.{line}
 use Rattle.lines.specs.Gather.{scattered}
-use Rattle.buffer.specs.Same.{same}
+use Rattle.peek.specs.Same.{same}
 use Rattle.lines.proofs.Truth.{both-true}
-use Rattle.lines.proofs.Digit.{bit-lt, from-lines, from-lines-lt, lines-not}
+use Rattle.lines.proofs.Digit.{bit-lt, from-lines, lines-not}
 use Rattle.lines.proofs.Ones.{ones-in}
 use Rattle.lines.proofs.Scattering.{scatter-lt, scatter-unmasked, gather-back}
-use Rattle.buffer.proofs.Compare.{same-true, same-equal}
+use Rattle.peek.proofs.Compare.{same-true, same-equal}
 use Rattle.lut.specs.Table.{oneIf}
+use Rattle.lut.specs.Back.{ReadNumbered}
+use Rattle.lut.proofs.Numbers.{numbered-read, numbered-refused}
 use Rattle.range.specs.declared.Range.{Range}
 use Rattle.range.specs.declared.ReadRange.{ReadRange}
 use Rattle.range.specs.declared.ReadRange.the-variants as ReadRange
 use Rattle.range.specs.Rule.{RangeAccepted, Accepted}
 use Rattle.range.specs.Words.{tableFor, chainWords, lowerValue, upperValue, sentWords, wordsOf}
 use Rattle.range.specs.Model.{tableAt}
-use Rattle.range.specs.Back.{linesWith, chainMask, chainBound, decoded, readAs, readRange, ReadSays}
+use Rattle.range.specs.Back.{linesWith, chainMask, chainBound, decoded, readAs, readRange, ReadMeans, readNumber, readPlace}
 use Rattle.range.proofs.Tables.{table-at, take-sent, drop-sent, length-sent}
 use Rattle.range.proofs.Carry.{lower-fits, upper-fits, lower-value, upper-value}
 
@@ -143,15 +145,27 @@ module _ (words : List ℕ) (lower upper mask : ℕ) where
   pub read-iff : (readRange words ≡ ReadRange.Range lower upper mask) ↔ (RangeAccepted lower upper mask × (words ≡ sentWords lower upper mask))
   read-iff = (read-range, λ p. ap readRange (p .1) ∙ read-back lower upper mask (p .0))
 
-pub read-says : (words : List ℕ) → ReadSays words (readRange words)
-read-says words = go (readRange words) refl
+pub read-means : (words : List ℕ) → ReadMeans words (readRange words)
+read-means words = go (readRange words) refl
   where
-    go : (r : ReadRange) → readRange words ≡ r → ReadSays words r
+    go : (r : ReadRange) → readRange words ≡ r → ReadMeans words r
     go (ReadRange.Range lower upper mask) e = read-range words lower upper mask e
     go ReadRange.Refused e = λ lower upper mask a w.
         let back = ap readRange w ∙ read-back lower upper mask a in
         let z : _≡_ {A = ℕ} 0 1 = cc in
         absurd (omega arith)
+
+-- and an answer that says so has these numbers
+pub read-numbered : (words : List ℕ) (r : ReadRange) → ReadMeans words r → ReadNumbered Accepted wordsOf words (readNumber r) (readPlace r)
+read-numbered words (ReadRange.Range lower upper mask) says =
+    numbered-read Accepted wordsOf words (record { lower = lower; upper = upper; mask = mask }, (says .0, says .1))
+read-numbered words ReadRange.Refused none =
+    numbered-refused Accepted wordsOf words (λ x. none (x .0 .lower) (x .0 .upper) (x .0 .mask) (x .1 .0) (x .1 .1))
+
+-- what is right of the answer is right of what equals it
+pub read-meets : (words : List ℕ) (r : ReadRange) → r ≡ readRange words
+    → (r ≡ readRange words) × (ReadMeans words r × ReadNumbered Accepted wordsOf words (readNumber r) (readPlace r))
+read-meets words r e = let says = subst (ReadMeans words) (sym e) (read-means words) in (e, (says, read-numbered words r says))
 
 -- what is read are 32-bit numbers
 pub read-fits : (words : List ℕ) (lower upper mask : ℕ) → readRange words ≡ ReadRange.Range lower upper mask

@@ -7,12 +7,13 @@ use Prim.Native.Nat.{ℕ}
 use native.Mathlib.Omega.{arith}
 use lib.Dec.{lit<}
 use lib.ListN.{length}
-use Rattle.buffer.specs.Bytes.{Bytes}
-use Rattle.buffer.specs.Fields.{fieldBytes}
-use Rattle.buffer.proofs.FieldLaws.{fields-read, fields-written, fit₃, same₃}
+use Rattle.peek.specs.Bytes.{Bytes}
+use Rattle.peek.specs.Fields.{fieldBytes}
+use Rattle.peek.proofs.FieldLaws.{fields-read, fields-written, fit₃, same₃}
 use Rattle.range.specs.Description.{size, fromBytes, toBytes}
 use Rattle.range.proofs.Carry.{upper-fits}
 use Rattle.lut.specs.Answer.{hitOrMiss}
+use Rattle.lut.specs.Back.{Written}
 use Rattle.lut.specs.Telling.{HitAlike}
 use Rattle.lut.specs.declared.Input.the-variants.{Sample}
 use Rattle.lut.proofs.Asked.{alike-on-samples}
@@ -23,10 +24,10 @@ use Rattle.range.specs.declared.ReadRange.the-variants as ReadRange
 use Rattle.range.specs.Rule.{hitOf, hit, Accepted}
 use Rattle.range.specs.Words.{wordsOf}
 use Rattle.range.specs.Model.{modelHit, runRange}
-use Rattle.range.specs.Back.{readRange, ReadSays}
+use Rattle.range.specs.Back.{readRange, readNumber}
 use Rattle.range.proofs.Tables.{length-sent}
 use Rattle.range.proofs.Carry.{model-hits}
-use Rattle.range.proofs.Decode.{read-back, read-says}
+use Rattle.range.proofs.Decode.{read-back, read-means, read-numbered}
 
 -- over an accepted range's words the model hits exactly when the plain rule does [D2.3]
 pub run-hits : (r : Range) → Accepted r → (sample : ℕ) → runRange (wordsOf r) sample ≡ hitOrMiss (hit r (Sample sample))
@@ -38,18 +39,14 @@ pub words-read-back : (r : Range) → Accepted r → readRange (wordsOf r) ≡ R
 words-read-back r = read-back (r .lower) (r .upper) (r .mask)
 
 -- words are refused unless an accepted range writes them [C5, F16, D2.6]
-pub accepted-iff-written : (words : List ℕ) → (readRange words ≡ ReadRange.Refused → ⊥) ↔ ((r : Range) × (Accepted r × (words ≡ wordsOf r)))
-accepted-iff-written ws = (λ n. go (readRange ws) n (read-says ws), back)
+pub accepted-iff-written : (words : List ℕ) → (readRange words ≡ ReadRange.Refused → ⊥) ↔ Written Accepted wordsOf words
+accepted-iff-written ws =
+    let numbered = read-numbered ws (readRange ws) (read-means ws) in
+    (λ n. numbered .read .0 (unrefused (readRange ws) n), λ w e. numbered .refused .0 (ap readNumber e) w)
   where
-    go : (x : ReadRange) → (x ≡ ReadRange.Refused → ⊥) → ReadSays ws x → (r : Range) × (Accepted r × (ws ≡ wordsOf r))
-    go (ReadRange.Range lower upper mask) n says = (record { lower = lower; upper = upper; mask = mask }, (says .0, says .1))
-    go ReadRange.Refused n says = absurd (n refl)
-
-    back : ((r : Range) × (Accepted r × (ws ≡ wordsOf r))) → readRange ws ≡ ReadRange.Refused → ⊥
-    back (r, (a, w)) e =
-        let x : ReadRange.Range (r .lower) (r .upper) (r .mask) ≡ ReadRange.Refused = sym (ap readRange w ∙ words-read-back r a) ∙ e in
-        let z : _≡_ {A = ℕ} 0 1 = cc in
-        omega arith
+    unrefused : (r : ReadRange) → (r ≡ ReadRange.Refused → ⊥) → readNumber r ≡ 0
+    unrefused (ReadRange.Range lower upper mask) n = refl
+    unrefused ReadRange.Refused n = absurd (n refl)
 
 -- no sample tells two accepted ranges apart that have the same chain words [D3.3]
 pub equal-words-alike : (a b : Range) → Accepted a → Accepted b → wordsOf a ≡ wordsOf b → HitAlike (hit a) (hit b)

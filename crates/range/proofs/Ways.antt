@@ -8,10 +8,10 @@ use native.Mathlib.Nat.{not-suc-le-zero}
 use native.Mathlib.Omega.{arith}
 use lib.Dec.{lit<}
 use lib.ListN.{length, getD, length-append}
-use Rattle.buffer.specs.Bytes.{Bytes}
-use Rattle.buffer.specs.Fields.{fieldOf, fieldBytes, Writes}
-use Rattle.buffer.proofs.Numbers.{u32-small}
-use Rattle.buffer.proofs.FieldLaws.{fields-bytes, fields-read, fields-written, fit₃, same₃}
+use Rattle.peek.specs.Bytes.{Bytes}
+use Rattle.peek.specs.Fields.{fieldOf, fieldBytes, Writes}
+use Rattle.peek.proofs.Numbers.{u32-small}
+use Rattle.peek.proofs.FieldLaws.{fields-bytes, fields-read, fields-written, fit₃, same₃}
 use Rattle.range.specs.declared.Range.{Range}
 use Rattle.range.specs.declared.ReadRange.{ReadRange}
 use Rattle.range.specs.declared.ReadRange.the-variants as ReadRange

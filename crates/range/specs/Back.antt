@@ -1,5 +1,7 @@
--- The way back from words to a range: decode, encode again, compare. What the answer means is `ReadSays`, theorem
--- read-says.
+-- The way back from words to a range: decode, encode again, compare.
+-- A procedure, not a meaning: nothing that is marked computed has to be believed. What it answers is pinned by
+-- `ReadMeans` below: read-means in proofs/Decode, words-read-back and accepted-iff-written in proofs/Theorems
+-- [C5, D2.5, D2.6].
 use Prim.Native.Nat.{ℕ, _+_, _-_, _^_}
 use mathlib.Core.Path.{_≡_}
 use mathlib.Core.Bool.{cond, _&&_}
@@ -9,7 +11,7 @@ use lib.Dec.{eqb, leb}
 use lib.ListN.{length, take, drop}
 use Rattle.lines.specs.Line.{fromLines}
 use Rattle.lines.specs.Gather.{gathered}
-use Rattle.buffer.specs.Same.{same}
+use Rattle.peek.specs.Same.{same}
 use Rattle.lut.specs.Table.{oneIf}
 use Rattle.range.specs.declared.Range.{Range}
 use Rattle.range.specs.declared.ReadRange.{ReadRange}
@@ -44,12 +46,21 @@ abbrev pub readAs : (words : List ℕ) → Range → ReadRange
 readAs words r =
     cond (leb (r .lower) (r .upper) && same words (wordsOf r)) (ReadRange.Range (r .lower) (r .upper) (r .mask)) ReadRange.Refused
 
--- computed: the accepted range that writes the words, if one does; theorem read-says [B6, C5, F16]
+-- computed: the accepted range that writes the words, if one does; theorem read-means [B6, C5, F16]
 unfoldable pub readRange : (words : List ℕ) → ReadRange
 readRange words = cond (eqb (length words) 32) (readAs words (decoded words)) ReadRange.Refused
 
 -- what an answer says: this accepted range writes the words, or none does [C5, C6, F16]
-abbrev pub ReadSays : (words : List ℕ) → ReadRange → Type 0
-ReadSays words (ReadRange.Range lower upper mask) = RangeAccepted lower upper mask × (words ≡ sentWords lower upper mask)
-ReadSays words ReadRange.Refused =
+abbrev pub ReadMeans : (words : List ℕ) → ReadRange → Type 0
+ReadMeans words (ReadRange.Range lower upper mask) = RangeAccepted lower upper mask × (words ≡ sentWords lower upper mask)
+ReadMeans words ReadRange.Refused =
     (lower upper mask : ℕ) → RangeAccepted lower upper mask → words ≡ sentWords lower upper mask → ⊥
+
+-- the refusal number for each answer: 16 where no accepted range writes the words, 0 for a range [A5, F16]
+abbrev pub readNumber : ReadRange → ℕ
+readNumber (ReadRange.Range lower upper mask) = 0
+readNumber ReadRange.Refused = 16
+
+-- its place, counted from the item's own first byte, where the lower chain's select stands [A5, F16]
+abbrev pub readPlace : ReadRange → ℕ
+readPlace r = 0

@@ -2,7 +2,7 @@
 -- range_telling.
 use Prim.Native.Nat.{ℕ}
 use mathlib.Core.List.{List, [], _∷_}
-use Rattle.buffer.specs.Fields.{fieldOf, fieldBytes}
+use Rattle.peek.specs.Fields.{fieldOf, fieldBytes}
 use Rattle.range.specs.declared.Range.{Range}
 use Rattle.range.specs.declared.ReadRange.{ReadRange}
 use Rattle.range.specs.declared.ReadRange.the-variants as ReadRange
@@ -35,6 +35,6 @@ abbrev pub bytesRead : ReadRange → List ℕ
 bytesRead (ReadRange.Range lower upper mask) = toBytes (record { lower = lower; upper = upper; mask = mask })
 bytesRead ReadRange.Refused = []
 
--- computed: the description that words are read as, no bytes if there is none; theorem read-says [B6, B7, C5, F16]
+-- computed: the description that words are read as, no bytes if there is none; theorem read-means [B6, B7, C5, F16]
 unfoldable pub back : List ℕ → List ℕ
 back ws = bytesRead (readRange ws)

@@ -1,9 +1,11 @@
 // The way back: words decoded to a range, which is encoded again and compared.
 ghost use mathlib.Core.Path.{_≡_};
 ghost use lib.ListN.{length};
-ghost use Rattle.buffer.specs.Same.{same};
-ghost use Rattle.range.specs.Words.{sentWords};
-ghost use Rattle.range.specs.Back.{linesWith, chainBound, readRange, ReadSays};
+ghost use Rattle.peek.specs.Same.{same};
+ghost use Rattle.lut.specs.Back.{ReadNumbered};
+ghost use Rattle.range.specs.Rule.{Accepted};
+ghost use Rattle.range.specs.Words.{sentWords, wordsOf};
+ghost use Rattle.range.specs.Back.{linesWith, chainBound, readRange, ReadMeans, readNumber, readPlace};
 use super::ReadRange;
 use super::model::table_at;
 use super::words::low_bits;
@@ -44,8 +46,8 @@ fn writes(words: &[u32], lower: u32, upper: u32, mask: u32) -> bool
     let chains = range_words(lower, upper, mask);
     let lower_chain = chains[0];
     let upper_chain = chains[1];
-    if buffer::same_words(&words[..16], &lower_chain) {
-        return buffer::same_words(&words[16..], &upper_chain);
+    if peek::same_words(&words[..16], &lower_chain) {
+        return peek::same_words(&words[16..], &upper_chain);
     }
     false
 }
@@ -53,7 +55,8 @@ fn writes(words: &[u32], lower: u32, upper: u32, mask: u32) -> bool
 // The accepted range that writes these words, or that none does.
 pub fn read_range(words: &[u32]) -> ReadRange
     ensures { λ r. ⌜ r ≡ readRange (now (words .entry)) ⌝ }
-    ensures { λ r. ⌜ ReadSays (now (words .entry)) r ⌝ }
+    ensures { λ r. ⌜ ReadMeans (now (words .entry)) r ⌝ }
+    ensures { λ r. ⌜ ReadNumbered Accepted wordsOf (now (words .entry)) (readNumber r) (readPlace r) ⌝ }
 {
     if words.len() != 32 {
         return ReadRange::Refused;

@@ -13,9 +13,9 @@ pub fn from_bytes(bytes: &[u8]) -> Range
     ensures { λ r. ⌜ r ≡ description.fromBytes (now (bytes .entry)) ⌝ }
 {
     Range {
-        lower: buffer::field(bytes, 0),
-        upper: buffer::field(bytes, 1),
-        mask: buffer::field(bytes, 2),
+        lower: peek::field(bytes, 0),
+        upper: peek::field(bytes, 1),
+        mask: peek::field(bytes, 2),
     }
 }
 

@@ -3,6 +3,7 @@ ghost use mathlib.Core.Path.{_≡_};
 ghost use Prim.Native.Nat.{_<_};
 ghost use lib.ListN.{length};
 ghost use Rattle.lines.specs.Line.{choose};
+ghost use Rattle.lut.specs.Answer.{RunNumbered};
 ghost use Rattle.lut.specs.Table.{answerAt};
 ghost use Rattle.range.specs.Model.{tableAt, chainCarry, runRange};
 use lut::Answer;
@@ -50,6 +51,7 @@ fn chain_carry(chain: &[u32], sample: u32) -> u32
 // The model, on any lent words: the lower chain's sixteen, then the upper chain's.
 pub fn run_range(words: &[u32], sample: u32) -> Answer
     ensures { λ r. ⌜ r ≡ runRange (now (words .entry)) sample ⌝ }
+    ensures { λ r. ⌜ RunNumbered 32 (now (words .entry)) r ⌝ }
 {
     if words.len() != 32 {
         return Answer::WrongCount(32);

@@ -14,7 +14,7 @@ pub fn range_hit(lower: u32, upper: u32, mask: u32, sample: u32) -> bool
 }
 
 // The refusal number of a description, 0 for none.
-pub fn range_fault(lower: u32, upper: u32, mask: u32) -> u8
+pub(crate) fn range_fault(lower: u32, upper: u32, mask: u32) -> u8
     ensures { λ r. ⌜ r ≡ rangeFault lower upper mask ⌝ }
 {
     if lower == 0 {

@@ -50,7 +50,7 @@ pub(crate) fn low_bits(x: u32, mask: u32) -> u32
 }
 
 // The two chains of a range, the lower one first.
-pub fn range_words(lower: u32, upper: u32, mask: u32) -> [[u32; 16]; 2]
+pub(crate) fn range_words(lower: u32, upper: u32, mask: u32) -> [[u32; 16]; 2]
     ensures { λ r. ⌜ r ≡ rangeWords lower upper mask ⌝ }
 {
     let below = std::num::wrapping_sub_u32(lower, 1);

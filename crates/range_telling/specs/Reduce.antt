@@ -1,5 +1,6 @@
--- The range without the lines that cannot matter, computed line by line from the lowest. What the result means is
--- `Reduces`, theorem reduces.
+-- The range without the lines that cannot matter, computed line by line from the lowest.
+-- A procedure, not a meaning: nothing that is marked computed has to be believed. What it answers is pinned by
+-- `Reduces` below: reduces and dropped-exactly in proofs/Theorems [D3.4].
 use mathlib.Core.Bool.{Bool, cond, _&&_}
 use Prim.Native.Nat.{ℕ, zero, suc, _/_, _%_}
 use lib.Dec.{eqb}

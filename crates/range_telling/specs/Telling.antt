@@ -1,5 +1,6 @@
--- What tells two ranges apart (*telling sample* is the buyer's term), as it is computed. What the answer means is lut's
--- `Says`, theorem telling-says.
+-- What tells two ranges apart (*telling sample* is the buyer's term), as it is computed.
+-- A procedure, not a meaning: nothing here has to be believed. What it answers is pinned by lut's `Says`: telling-says
+-- in proofs/Theorems [D3.6].
 use mathlib.Core.Bool.{cond, _&&_, Bool·beq}
 use Prim.Native.Nat.{ℕ, zero, suc, _+_, _-_, _/_, _%_, _^_, min, max}
 use lib.Count.{onesIn}

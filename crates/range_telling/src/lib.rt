@@ -6,5 +6,3 @@ mod reduced;
 mod telling;
 
 pub use description::telling_of;
-pub use reduced::reduce;
-pub use telling::range_telling;

@@ -5,7 +5,7 @@ ghost use Rattle.range_telling.specs.Reduce.{reduceOf, Reduces};
 use range::Range;
 
 // While lower is even and upper is odd the lowest masked line cannot matter: it goes, and both bounds are halved.
-pub fn reduce(range: Range) -> Range
+pub(crate) fn reduce(range: Range) -> Range
     ensures { λ q. ⌜ q ≡ reduceOf range ⌝ }
     ensures { λ q. ⌜ (Accepted range → Reduces range q) ⌝ }
 {

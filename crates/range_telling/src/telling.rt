@@ -135,7 +135,7 @@ fn tell_bounds(a: Range, b: Range) -> Telling
 }
 
 // What tells two ranges apart: a sample, or that there is none.
-pub fn range_telling(old: Range, new: Range) -> Telling
+pub(crate) fn range_telling(old: Range, new: Range) -> Telling
     ensures { λ t. ⌜ t ≡ rangeTelling old new ⌝ }
     ensures { λ t. ⌜ (Accepted old → Accepted new → Says (hit old) (hit new) t) ⌝ }
 {

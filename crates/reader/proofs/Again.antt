@@ -9,10 +9,10 @@ use native.Mathlib.Nat.{add-zero, zero-add, not-suc-le-zero, le-refl}
 use native.Mathlib.Omega.{arith}
 use borrow.Author.Tests.{eq-eqb, ne-eqb}
 use lib.ListN.{length, getD, take, take-append-drop, List·getD-eq-default}
-use Rattle.buffer.specs.Bytes.{Bytes}
+use Rattle.peek.specs.Bytes.{Bytes}
 use Rattle.buffer.specs.declared.Verdict.the-variants.{Accepted}
 use Rattle.buffer.proofs.Faults.{andThen-accepted}
-use Rattle.buffer.proofs.Numbers.{bytes-nil, bytes-drop}
+use Rattle.peek.proofs.Numbers.{bytes-nil, bytes-drop}
 use Rattle.command.specs.Reading.{number}
 use Rattle.records.specs.Sections.{sections, mostOf, slotOf}
 use Rattle.sheet.specs.Parsed.{render, Ordered, Sections, WellFormed}

@@ -10,11 +10,11 @@ use borrow.Author.Tests.{eq-eqb, eqb-true, not-false}
 use lib.Dec.{eqb}
 use lib.ListN.{length, take, drop, length-drop}
 use lib.Seq.{take-add, take-append-seam, drop-append-seam, take-at, drop-at}
-use Rattle.buffer.specs.Bytes.{Bytes}
+use Rattle.peek.specs.Bytes.{Bytes}
 use Rattle.buffer.specs.Verdict.{refuseIf}
 use Rattle.buffer.specs.declared.Verdict.the-variants.{Accepted}
 use Rattle.buffer.proofs.Faults.{andThen-accepted, andThen-both, refuseIf-accepted}
-use Rattle.buffer.proofs.Numbers.{bytes-drop}
+use Rattle.peek.proofs.Numbers.{bytes-drop}
 use Rattle.command.specs.Command.{selectOp, chain}
 use Rattle.command.specs.Reading.{number, commandVerdict, loadsVerdict, wordsIn}
 use Rattle.command.proofs.Checked.{command-ok, loads-whole, length-words}

@@ -16,7 +16,7 @@ use Rattle.buffer.specs.Room.{bytes, unless}
 use Rattle.buffer.specs.declared.Verdict.{Verdict}
 use Rattle.buffer.specs.declared.Verdict.the-variants.{Accepted, Refused}
 use Rattle.buffer.proofs.Faults.{andThen-accepted, andThen-assoc}
-use Rattle.buffer.proofs.Numbers.{u32-take}
+use Rattle.peek.proofs.Numbers.{u32-take}
 use Rattle.command.specs.Command.{selectOp, loadOp}
 use Rattle.command.specs.Reading.{number, commandVerdict, loadsVerdict, wordsIn}
 use Rattle.records.specs.Sections.{sections, kindOf, mostOf}

@@ -9,9 +9,9 @@ use lib.Dec.{T, eqb}
 use lib.ListN.{length, take, replicate}
 use Rattle.lines.specs.Line.{overLines, fromLines}
 use Rattle.lines.specs.Gather.{gathered, scattered}
-use Rattle.buffer.specs.Same.{same}
+use Rattle.peek.specs.Same.{same}
 use Rattle.lut.specs.Table.{tableOf, down}
-use Rattle.buffer.specs.Bytes.{u32At, allWithin}
+use Rattle.peek.specs.Bytes.{u32At, allWithin}
 use Rattle.buffer.specs.Room.{bytes}
 use Rattle.buffer.specs.declared.Verdict.{Verdict}
 use Rattle.buffer.specs.declared.Verdict.the-variants.{Accepted, Refused}
@@ -35,7 +35,7 @@ use Rattle.reader.specs.Judging.{descriptionRead, descriptionIn, firstVe
 use Rattle.reader.specs.Back.{recordsOf, sectionsOf, sheetIn, readBack}
 use Rattle.reader.proofs.Cutting.{rests-some}
 use Rattle.kinds.specs.Table.{chainCount, chainLength}
-use Rattle.buffer.specs.Fields.{fieldBytes}
+use Rattle.peek.specs.Fields.{fieldBytes}
 use Rattle.term.specs.Description as term-kind
 use Rattle.range.specs.Description as range-kind
 use Rattle.edge.specs.Description as edge-kind

@@ -2,17 +2,14 @@
 -- Assumes nothing.
 use Prim.Native.Nat.{ℕ, zero, suc, _+_, _*_, _≤_, _<_, _-_}
 use mathlib.Core.Path.{_≡_, refl, sym, ap, _∙_}
-use mathlib.Core.Bool.{Bool, true, false, not, cond}
+use mathlib.Core.Bool.{not}
 use mathlib.Core.List.{List, [], _∷_}
 use native.Mathlib.Omega.{arith}
 use borrow.Author.Tests.{lt-leb, le-leb, lt-ltb, le-ltb, eq-eqb, ne-eqb}
-use lib.Dec.{eqb, leb}
+use lib.Dec.{eqb}
 use lib.ListN.{length, drop, replicate, length-drop}
 use lib.Seq.{drop-drop}
-use Rattle.buffer.specs.Room.{bytes, Delivered}
-use Rattle.buffer.specs.Verdict.{andThen, refuseIf, outcomePlace}
-use Rattle.buffer.specs.declared.Outcome.{Outcome}
-use Rattle.buffer.specs.declared.Outcome.the-variants as Outcome
+use Rattle.buffer.specs.Verdict.{andThen, refuseIf}
 use Rattle.buffer.specs.declared.Verdict.{Verdict}
 use Rattle.buffer.specs.declared.Verdict.the-variants.{Accepted, Refused}
 use Rattle.buffer.proofs.Faults.{andThen-assoc}
@@ -105,16 +102,6 @@ module _ (words due from : ℕ) (s : List ℕ) where
   pub chain-within : chainsVerdict (words ∷ []) due from (drop from s) ≡ Accepted → from + (5 + 5 * words) ≤ length s
   unfolding sizeOf
   chain-within e = omega (arith, chains-whole (words ∷ []) due from (drop from s) e, length-drop from s)
-
--- ---- an answer
-
--- its place is how many bytes there are, whether they fit or not
-pub outcome-size : (bs room room′ : List ℕ) (r : Outcome) → Delivered (bytes bs) room r room′ → outcomePlace r ≡ length bs
-outcome-size bs room room′ r d = ap outcomePlace (d .answer) ∙ either (leb (length bs) (length room))
-  where
-    either : (b : Bool) → outcomePlace (cond b (Outcome.Done (length bs)) (Outcome.Refused 12 (length bs))) ≡ length bs
-    either true = refl
-    either false = refl
 
 -- ---- a stream, item by item
 

@@ -3,7 +3,7 @@ use Prim.Native.Nat.{ℕ, _<_}
 use mathlib.Core.Path.{_≡_, ap, _∙_}
 use mathlib.Core.List.{List, flatten}
 use lib.ListN.{length}
-use Rattle.buffer.specs.Bytes.{Bytes}
+use Rattle.peek.specs.Bytes.{Bytes}
 use Rattle.records.specs.Sections.{sections, descriptionSize, descriptionFault}
 use Rattle.kinds.proofs.Rows.{size-positive}
 use Rattle.kinds.proofs.Ways as ways

@@ -4,7 +4,7 @@ use mathlib.Core.Path.{_≡_}
 use mathlib.Core.List.{List}
 use mathlib.Core.Logic.{_⊎_}
 use lib.ListN.{take}
-use Rattle.buffer.specs.Bytes.{Bytes}
+use Rattle.peek.specs.Bytes.{Bytes}
 use Rattle.buffer.specs.Room.{bytes}
 use Rattle.buffer.specs.declared.Outcome.{Outcome}
 use Rattle.buffer.specs.declared.Outcome.the-variants.{Done, Refused}

@@ -16,8 +16,8 @@ fn part<'a>(room: &'a [u8], section: usize) -> &'a [u8]
     ensures { λ r. ⌜ (now r ≡ partOf section (now (room .entry))) × (length (now r) ≤ 262144) ⌝ }
 {
     let start = PART * section;
-    let size = records::section_size(section, buffer::byte_at(room, start));
-    buffer::prefix(buffer::suffix(room, start), size)
+    let size = records::section_size(section, peek::byte_at(room, start));
+    peek::prefix(peek::suffix(room, start), size)
 }
 
 // How many bytes the sheet has.

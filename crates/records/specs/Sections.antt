@@ -6,8 +6,8 @@ use mathlib.Core.List.{List}
 use lib.ListN.{getD, take, drop, replicate}
 use Rattle.buffer.specs.Room.{fill}
 use Rattle.records.specs.declared.Sum.{Sum}
-pub use Rattle.buffer.specs.Fields.{fieldOf}
-unfoldable pub use Rattle.buffer.specs.Fields.{fieldBytes}
+pub use Rattle.peek.specs.Fields.{fieldOf}
+unfoldable pub use Rattle.peek.specs.Fields.{fieldBytes}
 pub use Rattle.kinds.specs.Table.{sections}
 unfoldable pub use Rattle.kinds.specs.Table.{kindOf, mostOf, descriptionSize, descriptionFault}
 

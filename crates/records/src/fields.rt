@@ -8,19 +8,19 @@ use crate::Sum;
 pub fn slot(bytes: &[u8]) -> u8
     ensures { λ r. ⌜ r ≡ slotOf (now (bytes .entry)) ⌝ }
 {
-    buffer::byte_at(bytes, 0)
+    peek::byte_at(bytes, 0)
 }
 
 pub fn label<'a>(bytes: &'a [u8]) -> &'a [u8]
     ensures { λ r. ⌜ now r ≡ labelOf (now (bytes .entry)) ⌝ }
 {
-    buffer::prefix(buffer::suffix(bytes, 1), LABEL_SIZE)
+    peek::prefix(peek::suffix(bytes, 1), LABEL_SIZE)
 }
 
 pub fn description<'a>(bytes: &'a [u8]) -> &'a [u8]
     ensures { λ r. ⌜ now r ≡ descriptionOf (now (bytes .entry)) ⌝ }
 {
-    buffer::suffix(bytes, 1 + LABEL_SIZE)
+    peek::suffix(bytes, 1 + LABEL_SIZE)
 }
 
 // The record of a sum, by value.
@@ -30,7 +30,7 @@ pub fn sum_record(bytes: &[u8]) -> Sum
     let mut name = [0u8; LABEL_SIZE];
     let mut ops = [0u8; OPERATIONS];
     buffer::put_bytes(&mut name, label(bytes));
-    buffer::put_bytes(&mut ops, buffer::prefix(description(bytes), OPERATIONS));
+    buffer::put_bytes(&mut ops, peek::prefix(description(bytes), OPERATIONS));
     Sum {
         slot: slot(bytes),
         label: name,

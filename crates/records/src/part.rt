@@ -18,7 +18,7 @@ pub fn record_with<'a>(part: &'a [u8], number: usize, at: usize, with: u8) -> &'
     ensures { λ r. ⌜ now r ≡ front with (recordsIn number (drop at (now (part .entry)))) ⌝ }
 {
     let size = record_size(number);
-    let next = buffer::prefix(buffer::suffix(part, at), size);
+    let next = peek::prefix(peek::suffix(part, at), size);
     if next.len() < size {
         return &part[..0];
     }

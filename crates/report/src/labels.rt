@@ -7,12 +7,12 @@ pub(crate) fn record_of<'a>(sheet: &'a [u8], section: usize, slot: u8) -> &'a [u
     let size = record_size(section);
     let mut at: usize = 0;
     while at < part.len() {
-        if records::slot(buffer::suffix(part, at)) == slot {
-            return buffer::prefix(buffer::suffix(part, at), size);
+        if records::slot(peek::suffix(part, at)) == slot {
+            return peek::prefix(peek::suffix(part, at), size);
         }
         at = faults::ahead(at, size, part.len());
     }
-    buffer::suffix(part, at)
+    peek::suffix(part, at)
 }
 
 // The label between quotes, or that the slot is not there.

@@ -12,7 +12,7 @@ const WORD: usize = 4;
 
 // The length of the line that starts at `at`, its end included.
 pub(crate) fn line_length(notice: &[u8], at: usize) -> usize {
-    let rest = buffer::suffix(notice, at);
+    let rest = peek::suffix(notice, at);
     let mut i: usize = 0;
     while i < rest.len() {
         if rest[i] == b'\n' {
@@ -28,7 +28,7 @@ pub(crate) fn count_lines(notice: &[u8], finding: &[u8]) -> usize {
     let mut count: usize = 0;
     let mut at: usize = 0;
     while at < notice.len() {
-        count = counted(count, is_finding(buffer::suffix(notice, at), finding));
+        count = counted(count, is_finding(peek::suffix(notice, at), finding));
         at = faults::ahead(at, line_length(notice, at), notice.len());
     }
     count
@@ -43,7 +43,7 @@ fn counted(count: usize, is_one: bool) -> usize {
 }
 
 pub(crate) fn is_finding(line: &[u8], finding: &[u8]) -> bool {
-    buffer::same_bytes(buffer::prefix(buffer::suffix(line, FINDING), WORD), finding)
+    peek::same_bytes(peek::prefix(peek::suffix(line, FINDING), WORD), finding)
 }
 
 // The section that a line speaks of, by its four letters; SECTIONS if none has them.
@@ -61,12 +61,12 @@ pub(crate) fn section_of(line: &[u8]) -> usize {
 }
 
 fn is_kind(line: &[u8], kind: &[u8]) -> bool {
-    buffer::same_bytes(buffer::prefix(line, WORD), kind)
+    peek::same_bytes(peek::prefix(line, WORD), kind)
 }
 
 // The slot that a line speaks of.
 pub(crate) fn slot_of(line: &[u8]) -> u8 {
-    digit(buffer::byte_at(line, SLOT)) * 10 + digit(buffer::byte_at(line, SLOT + 1))
+    digit(peek::byte_at(line, SLOT)) * 10 + digit(peek::byte_at(line, SLOT + 1))
 }
 
 fn digit(byte: u8) -> u8

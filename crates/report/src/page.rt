@@ -44,19 +44,14 @@ fn write_counts(notice: &[u8], fd: i32) -> bool {
     let e = put_number(&mut line, d, b", NEW ", count_lines(notice, b"NEW\n"));
     let f = put_number(&mut line, e, b", GONE ", count_lines(notice, b"GONE"));
     let g = buffer::put_at(&mut line, f, b"\n\n");
-    io::write_all(fd, buffer::prefix(&line, g))
+    io::write_all(fd, peek::prefix(&line, g))
 }
 
 fn write_lines(notice: &[u8], old: &[u8], new: &[u8], fd: i32) -> bool {
     let mut at: usize = 0;
     while at < notice.len() {
         let length = line_length(notice, at);
-        if !write_line(
-            buffer::prefix(buffer::suffix(notice, at), length),
-            old,
-            new,
-            fd,
-        ) {
+        if !write_line(peek::prefix(peek::suffix(notice, at), length), old, new, fd) {
             return false;
         }
         at = faults::ahead(at, length, notice.len());
@@ -80,7 +75,7 @@ fn write_line(line: &[u8], old: &[u8], new: &[u8], fd: i32) -> bool {
     let c = buffer::put_at(&mut labels, b, b", new label ");
     let d = put_label(&mut labels, c, new, section, slot);
     let e = buffer::put_at(&mut labels, d, b"\n");
-    io::write_all(fd, buffer::prefix(&labels, e))
+    io::write_all(fd, peek::prefix(&labels, e))
 }
 
 fn write_saying(line: &[u8], fd: i32) -> bool {

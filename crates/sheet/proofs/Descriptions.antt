@@ -8,10 +8,10 @@ use native.Mathlib.Nat.{add-zero, zero-add, zero-div}
 use native.Mathlib.Omega.{arith}
 use lib.Dec.{ltb, eqb}
 use lib.ListN.{length, getD, take, drop, replicate, length-drop, length-replicate}
-use Rattle.buffer.specs.Bytes.{Bytes, allWithin}
+use Rattle.peek.specs.Bytes.{Bytes, allWithin}
 use Rattle.buffer.specs.Verdict.{isAccepted}
 use Rattle.buffer.specs.declared.Verdict.the-variants.{Accepted}
-use Rattle.buffer.proofs.Numbers.{bytes-nil, bytes-cons, bytes-append, bytes-take, bytes-drop}
+use Rattle.peek.proofs.Numbers.{bytes-nil, bytes-cons, bytes-append, bytes-take, bytes-drop}
 use Rattle.records.specs.Sections.{sections, labelSize, descriptionSize, descriptionFault, recordSize, slotOf, descriptionOf}
 use Rattle.sheet.specs.Reading.{verdict}
 use Rattle.records.specs.Records.{recordAt, recordCount, recordsFrom, find}

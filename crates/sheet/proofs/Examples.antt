@@ -6,7 +6,7 @@ use mathlib.Core.Path.{_≡_, refl, sym}
 use lib.Count.{ones, onesIn}
 use lib.Dec.{T, eqb, lit<}
 use lib.ListN.{length, getD, replicate}
-use Rattle.buffer.specs.Bytes.{u32At, allWithin}
+use Rattle.peek.specs.Bytes.{u32At, allWithin}
 use Rattle.buffer.specs.declared.Verdict.{Verdict}
 use Rattle.buffer.specs.declared.Verdict.the-variants.{Accepted, Refused}
 use Rattle.lines.specs.Line.{overLines}
@@ -17,7 +17,7 @@ use Rattle.sheet.specs.Reading.{recordFault, recordsVerdict, countVerdic
 use Rattle.records.specs.Records.{recordsFrom}
 use Rattle.sheet.specs.Parsed.{joined, render, sectionsFrom, parse}
 use Rattle.sheet.proofs.Descriptions.{sheetWith, recordWith, onlySection, sheet-with}
-use Rattle.buffer.proofs.FieldLaws.{fields-length}
+use Rattle.peek.proofs.FieldLaws.{fields-length}
 use Rattle.edge.specs.Description as edge-kind
 use Rattle.term.specs.Description as term-kind
 use Rattle.range.specs.Description as range-kind

@@ -1,12 +1,12 @@
 -- A refusal of a sheet has a number that is not 0, so that 0 stands for an accepted sheet. Assumes nothing.
 use Prim.Native.Nat.{ℕ, zero, suc, _+_, _<_}
-use mathlib.Core.Bool.{Bool, true, false, cond}
+use mathlib.Core.Bool.{Bool, true, false}
 use mathlib.Core.List.{List}
-use mathlib.Core.Path.{_≡_, refl}
+use mathlib.Core.Path.{_≡_, refl, sym, ap, _∙_}
 use native.Mathlib.Omega.{arith}
 use lib.Dec.{lit<, ltb}
 use lib.ListN.{length, getD, drop}
-use Rattle.buffer.specs.Verdict.{andThen, refuseIf, refuseFault, verdictNumber, verdictPlace}
+use Rattle.buffer.specs.Verdict.{andThen, refuseIf, refuseFault, verdictNumber, verdictPlace, VerdictNumbered}
 use Rattle.buffer.specs.declared.Verdict.{Verdict}
 use Rattle.buffer.specs.declared.Verdict.the-variants.{Accepted, Refused}
 use Rattle.records.specs.Sections.{sections, mostOf, recordSize, sectionSize, slotOf}
@@ -69,3 +69,15 @@ refusal-is (Refused number place) n = refl
 
 pub refused-numbered : (s : List ℕ) → (verdictNumber (verdict s) ≡ 0 → ⊥) → verdict s ≡ Refused (verdictNumber (verdict s)) (verdictPlace (verdict s))
 refused-numbered s = refusal-is (verdict s)
+
+-- an answer that is the verdict has its numbers
+pub check-meets : (s : List ℕ) (r : Verdict) → r ≡ verdict s → (r ≡ verdict s) × VerdictNumbered (verdict s) r
+check-meets s r e =
+    let number = ap verdictNumber e in (
+      e,
+      record {
+        number = number;
+        place = ap verdictPlace e;
+        none = (λ z. accepted-numbered s (sym number ∙ z), λ a. number ∙ ap verdictNumber a);
+      },
+    )

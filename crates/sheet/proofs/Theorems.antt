@@ -5,9 +5,9 @@ use mathlib.Core.Logic.{_↔_}
 use mathlib.Core.Path.{_≡_, refl, sym, ap, _∙_}
 use lib.Dec.{lit<}
 use lib.ListN.{length, getD, take}
-use Rattle.buffer.specs.Bytes.{Bytes}
+use Rattle.peek.specs.Bytes.{Bytes}
 use Rattle.buffer.specs.declared.Verdict.the-variants.{Accepted, Refused}
-use Rattle.buffer.proofs.Within.{within-at}
+use Rattle.peek.proofs.Within.{within-at}
 use Rattle.records.specs.Sections.{sections, kindOf, mostOf, descriptionSize, descriptionFault, slotOf, labelOf}
 use Rattle.sheet.specs.Reading.{recordsVerdict, countVerdict, sectionVerdict, sectionsVerdict, verdict}
 use Rattle.records.specs.Records.{recordAt, recordCount, find, front}

@@ -3,8 +3,8 @@ ghost use mathlib.Core.Path.{_≡_};
 ghost use mathlib.Core.Bool.{cond};
 ghost use lib.Dec.{eqb};
 ghost use lib.ListN.{drop};
-ghost use Rattle.buffer.specs.Bytes.{allWithin};
-ghost use Rattle.buffer.specs.Verdict.{faultUnless};
+ghost use Rattle.peek.specs.Bytes.{allWithin};
+ghost use Rattle.buffer.specs.Verdict.{faultUnless, VerdictNumbered};
 ghost use Rattle.sheet.specs.Reading.{recordFault, recordsVerdict, sectionVerdict, verdict};
 use buffer::Verdict;
 use kinds::SECTIONS;
@@ -40,7 +40,7 @@ const LABEL_LAST: u8 = 0x7e;
 fn label_fault(bytes: &[u8]) -> u8
     ensures { λ r. ⌜ r ≡ faultUnless (allWithin 0x20 0x7E (now (bytes .entry))) 5 ⌝ }
 {
-    if buffer::all_within(LABEL_FIRST, LABEL_LAST, bytes) {
+    if peek::all_within(LABEL_FIRST, LABEL_LAST, bytes) {
         NO_FAULT
     } else {
         BAD_LABEL
@@ -82,7 +82,7 @@ fn check_records(sheet: &[u8], section: usize, count: usize, start: usize) -> Ve
     let mut floor: usize = 0;
     let mut left = count;
     while 0 < left {
-        let next = buffer::prefix(buffer::suffix(sheet, at), size);
+        let next = peek::prefix(peek::suffix(sheet, at), size);
         let number = record_fault(section, floor, next);
         if number != NO_FAULT {
             return Verdict::Refused(number, at);
@@ -101,7 +101,7 @@ fn check_section(sheet: &[u8], section: usize, at: usize) -> Verdict
     if sheet.len() <= at {
         return Verdict::Refused(INCOMPLETE, at);
     }
-    let count = buffer::byte_at(sheet, at) as usize;
+    let count = peek::byte_at(sheet, at) as usize;
     if most(section) < count {
         return Verdict::Refused(COUNT_TOO_BIG, at);
     }
@@ -111,6 +111,7 @@ fn check_section(sheet: &[u8], section: usize, at: usize) -> Verdict
 // The verdict on a sheet: accepted, or its first fault by number and place.
 pub fn check(sheet: &[u8]) -> Verdict
     ensures { λ r. ⌜ r ≡ verdict (now (sheet .entry)) ⌝ }
+    ensures { λ r. ⌜ VerdictNumbered (verdict (now (sheet .entry))) r ⌝ }
 {
     let mut at: usize = 0;
     let mut section: usize = 0;
@@ -121,7 +122,7 @@ pub fn check(sheet: &[u8]) -> Verdict
             }
             Verdict::Accepted => {}
         }
-        at += section_size(section, buffer::byte_at(sheet, at));
+        at += section_size(section, peek::byte_at(sheet, at));
         section += 1;
     }
     if at < sheet.len() {

@@ -21,7 +21,7 @@ fn section_offset(sheet: &[u8], number: usize) -> usize
     let mut at: usize = 0;
     let mut section: usize = 0;
     while section < number {
-        at += section_size(section, buffer::byte_at(sheet, at));
+        at += section_size(section, peek::byte_at(sheet, at));
         section += 1;
     }
     at
@@ -35,8 +35,8 @@ fn section_unchecked<'a>(sheet: &'a [u8], number: usize) -> &'a [u8]
         return &sheet[..0];
     }
     let at = section_offset(sheet, number);
-    let size = section_size(number, buffer::byte_at(sheet, at));
-    buffer::prefix(buffer::suffix(sheet, at + 1), size - 1)
+    let size = section_size(number, peek::byte_at(sheet, at));
+    peek::prefix(peek::suffix(sheet, at + 1), size - 1)
 }
 
 // The part of the sheet that holds a section's records, without the count; empty for a refused sheet, and for a section
@@ -51,7 +51,7 @@ pub fn section<'a>(sheet: &'a [u8], number: usize) -> &'a [u8]
         Verdict::Refused(_, _) => &sheet[..0],
         Verdict::Accepted => {
             let at = section_offset(sheet, number);
-            let size = section_size(number, buffer::byte_at(sheet, at));
+            let size = section_size(number, peek::byte_at(sheet, at));
             &sheet[at + 1..at + size]
         }
     }
@@ -94,7 +94,7 @@ fn lay_out(sheet: &[u8]) -> Judged
     let mut at: usize = 0;
     let mut section: usize = 0;
     while section < SECTIONS {
-        let size = section_size(section, buffer::byte_at(sheet, at));
+        let size = section_size(section, peek::byte_at(sheet, at));
         starts[section] = at + 1;
         sizes[section] = size - 1;
         at += size;

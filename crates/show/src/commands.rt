@@ -13,7 +13,7 @@ const LINE: usize = 128;
 pub fn show_commands(stream: &[u8], end: usize, fd: i32) -> bool {
     let mut at: usize = 0;
     while at < end {
-        if !show_command(buffer::suffix(stream, at), at, fd) {
+        if !show_command(peek::suffix(stream, at), at, fd) {
             return false;
         }
         at = faults::ahead(at, COMMAND_SIZE, end);
@@ -27,11 +27,11 @@ fn show_command(command: &[u8], at: usize, fd: i32) -> bool {
     let b = put_bytes(&mut line, a, command);
     let c = put_meaning(&mut line, b, command);
     let d = buffer::put_at(&mut line, c, b"\n");
-    io::write_all(fd, buffer::prefix(&line, d))
+    io::write_all(fd, peek::prefix(&line, d))
 }
 
 fn put_bytes(out: &mut [u8], at: usize, command: &[u8]) -> usize {
-    let a = put_bits(out, at, b"  ", buffer::byte_at(command, 0) as u32, 2);
+    let a = put_bits(out, at, b"  ", peek::byte_at(command, 0) as u32, 2);
     let b = put_byte(out, a, command, 1);
     let c = put_byte(out, b, command, 2);
     let d = put_byte(out, c, command, 3);
@@ -39,12 +39,12 @@ fn put_bytes(out: &mut [u8], at: usize, command: &[u8]) -> usize {
 }
 
 fn put_byte(out: &mut [u8], at: usize, command: &[u8], i: usize) -> usize {
-    put_bits(out, at, b" ", buffer::byte_at(command, i) as u32, 2)
+    put_bits(out, at, b" ", peek::byte_at(command, i) as u32, 2)
 }
 
 fn put_meaning(out: &mut [u8], at: usize, command: &[u8]) -> usize {
-    let number = buffer::u32_at(command, 1);
-    if buffer::byte_at(command, 0) == SELECT {
+    let number = peek::u32_at(command, 1);
+    if peek::byte_at(command, 0) == SELECT {
         put_bits(out, at, b"  select ", number, 2)
     } else {
         put_bits(out, at, b"    ", number, 8)

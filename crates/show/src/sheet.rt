@@ -30,19 +30,19 @@ fn show_line(sheet: &[u8], here: Cursor, fd: i32) -> bool {
     let b = buffer::put_at(&mut line, a, b"  ");
     let c = put_line(&mut line, b, sheet, here);
     let d = buffer::put_at(&mut line, c, b"\n");
-    io::write_all(fd, buffer::prefix(&line, d))
+    io::write_all(fd, peek::prefix(&line, d))
 }
 
 fn put_line(out: &mut [u8], at: usize, sheet: &[u8], here: Cursor) -> usize {
-    let bytes = buffer::suffix(sheet, here.at);
+    let bytes = peek::suffix(sheet, here.at);
     if here.record == 0 {
-        return put_count(out, at, here.section, buffer::byte_at(bytes, 0));
+        return put_count(out, at, here.section, peek::byte_at(bytes, 0));
     }
     put_record(
         out,
         at,
         here.section,
-        buffer::prefix(bytes, record_size(here.section)),
+        peek::prefix(bytes, record_size(here.section)),
     )
 }
 
@@ -63,12 +63,12 @@ fn put_record(out: &mut [u8], at: usize, section: usize, record: &[u8]) -> usize
 }
 
 fn put_fields(out: &mut [u8], at: usize, section: usize, description: &[u8]) -> usize {
-    let a = put_field(out, at, section, 0, buffer::u32_at(description, 0));
-    let b = put_field(out, a, section, 1, buffer::u32_at(description, 4));
+    let a = put_field(out, at, section, 0, peek::u32_at(description, 0));
+    let b = put_field(out, a, section, 1, peek::u32_at(description, 4));
     if text::field_count(section) < 3 {
         return b;
     }
-    put_field(out, b, section, 2, buffer::u32_at(description, 8))
+    put_field(out, b, section, 2, peek::u32_at(description, 8))
 }
 
 fn put_field(out: &mut [u8], at: usize, section: usize, i: usize, n: u32) -> usize {

@@ -28,17 +28,17 @@ fn chain_before(stream: &[u8], place: usize) -> Chain {
     };
     let mut at: usize = 0;
     while at < place {
-        chain = behind(buffer::suffix(stream, at), chain);
+        chain = behind(peek::suffix(stream, at), chain);
         at = ahead(at, COMMAND_SIZE, place);
     }
     chain
 }
 
 fn behind(command: &[u8], chain: Chain) -> Chain {
-    if buffer::byte_at(command, 0) == SELECT {
+    if peek::byte_at(command, 0) == SELECT {
         return Chain {
             is_there: true,
-            address: buffer::u32_at(command, 1),
+            address: peek::u32_at(command, 1),
             words: 0,
         };
     }
@@ -54,20 +54,18 @@ fn behind(command: &[u8], chain: Chain) -> Chain {
     }
 }
 
-// The whole line on a stream that `reader::read` refuses with this number and place.
-pub fn put_stream_refusal(
+// What is wrong in a stream that `reader::read` refuses with this number and place.
+pub fn put_stream_detail(
     out: &mut [u8],
     at: usize,
     stream: &[u8],
     number: u8,
     place: usize,
 ) -> usize {
-    let a = faults::put_refusal(out, at, number, place);
-    let b = buffer::put_at(out, a, b"; ");
     put_command(
         out,
-        b,
-        buffer::suffix(stream, place),
+        at,
+        peek::suffix(stream, place),
         number,
         chain_before(stream, place),
     )
@@ -77,9 +75,9 @@ pub fn put_stream_refusal(
 fn put_command(out: &mut [u8], at: usize, command: &[u8], number: u8, chain: Chain) -> usize {
     match number {
         13 => put_unfinished(out, at, command.len(), chain),
-        14 => put_opcode(out, at, buffer::byte_at(command, 0), chain),
-        15 => put_address(out, at, buffer::u32_at(command, 1), chain),
-        16 => put_item(out, at, buffer::u32_at(command, 1)),
+        14 => put_opcode(out, at, peek::byte_at(command, 0), chain),
+        15 => put_address(out, at, peek::u32_at(command, 1), chain),
+        16 => put_item(out, at, peek::u32_at(command, 1)),
         _ => at,
     }
 }

@@ -5,18 +5,21 @@ use mathlib.Core.Bool.{Bool, true, false, _&&_}
 use mathlib.Core.List.{List, [], _∷_}
 use borrow.Author.Tests.{eq-eqb, ne-eqb}
 use lib.ListN.{length, getD, replicate}
+use Rattle.lut.specs.Back.{ReadNumbered}
 use Rattle.sum.specs.declared.ReadSum.{ReadSum}
-use Rattle.sum.specs.Operation.{codesAccepted}
-use Rattle.sum.specs.Back.{SaysSum, codesOf, known, readSum}
-use Rattle.sum.proofs.ReadingBack.{read-says}
+use Rattle.sum.specs.Operation.{codesAccepted, Accepted}
+use Rattle.sum.specs.Words.{wordsOf}
+use Rattle.sum.specs.Back.{ReadMeans, codesOf, known, readSum, readNumber, readPlace}
+use Rattle.sum.proofs.ReadingBack.{read-means, read-numbered}
 
 -- the first six words of a list
 abbrev pub sixOf : List ℕ → List ℕ
 sixOf w = getD w 0 0 ∷ getD w 1 0 ∷ getD w 2 0 ∷ getD w 3 0 ∷ getD w 4 0 ∷ getD w 5 0 ∷ []
 
 -- an answer that is the definition's says what it should
-pub read-meets : (w : List ℕ) (r : ReadSum) → r ≡ readSum w → (r ≡ readSum w) × SaysSum w r
-read-meets w r e = (e, subst (λ (x : ReadSum). SaysSum w x) (sym e) (read-says w))
+pub read-meets : (w : List ℕ) (r : ReadSum) → r ≡ readSum w
+    → (r ≡ readSum w) × (ReadMeans w r × ReadNumbered Accepted wordsOf w (readNumber r) (readPlace r))
+read-meets w r e = let says = subst (λ (x : ReadSum). ReadMeans w x) (sym e) (read-means w) in (e, (says, read-numbered w r says))
 
 unread : (w : List ℕ) → known w ≡ false → _≡_ {A = ReadSum} (record { ok = false; ops = replicate 11 0 }) (readSum w)
 unread w h = rw h

@@ -1,5 +1,6 @@
 pub mod Tables
 pub mod Meanings
+pub mod Sources
 pub mod Walk
 pub mod ReadingBack
 pub mod Cases

@@ -9,9 +9,12 @@ use lib.Dec.{eqb}
 use lib.ListN.{length, getD, replicate}
 use Rattle.lines.proofs.Truth.{both-true}
 use Rattle.lut.specs.Table.{high, low, wordOf}
-use Rattle.sum.specs.Operation.{pairOps, midOps, finalOps, opWord, opCode, codesAccepted}
+use Rattle.lut.specs.Back.{ReadNumbered}
+use Rattle.lut.proofs.Numbers.{numbered-read, numbered-refused}
+use Rattle.sum.specs.declared.ReadSum.{ReadSum}
+use Rattle.sum.specs.Operation.{pairOps, midOps, finalOps, opWord, opCode, codesAccepted, Accepted}
 use Rattle.sum.specs.Words.{joined, wordsOf}
-use Rattle.sum.specs.Back.{WrittenBy, Says, SaysSum, codesOf, known, readSum}
+use Rattle.sum.specs.Back.{WrittenBy, Says, ReadMeans, codesOf, known, readSum, readNumber, readPlace}
 use Rattle.sum.proofs.Tables.{TenWords, pairs, mids, finals, code-of-word, joined-high, joined-low, word-of-code, joined-codes, code-at}
 
 -- a list by its places
@@ -85,12 +88,22 @@ pub read-written : (w b : List ℕ) → WrittenBy w b → readSum w ≡ record {
 read-written w b h = let k = read-known w b h in rw (k .0, k .1)
 
 -- what the answer says is so
-pub read-says : (w : List ℕ) → SaysSum w (readSum w)
+pub read-means : (w : List ℕ) → ReadMeans w (readSum w)
 unfolding codesOf
-read-says w = go (known w) refl
+read-means w = go (known w) refl
   where
     go : (b : Bool) → known w ≡ b → Says w b (cond b (codesOf w) (replicate 11 0))
     go true e =
         let g = both-true (eqb (length w) 6) (codesAccepted (codesOf w)) e in
         record { eleven = refl; accepted = g .1; written = sym (words-of-codes w (eqb-true (length w) 6 (g .0)) (g .1)) }
     go false e = λ b h. true≢false (sym (read-known w b h .0) ∙ e)
+
+-- and an answer that says so has these numbers
+pub read-numbered : (w : List ℕ) (r : ReadSum) → ReadMeans w r → ReadNumbered Accepted wordsOf w (readNumber r) (readPlace r)
+read-numbered w r = go (r .ok) (r .ops)
+  where
+    go : (ok : Bool) (ops : List ℕ) → Says w ok ops → ReadNumbered Accepted wordsOf w (cond ok 0 16) 0
+    go true ops says = numbered-read Accepted wordsOf w (ops, (record { eleven = says .eleven; codes = says .accepted }, says .written))
+    go false ops none =
+        numbered-refused Accepted wordsOf w
+        (λ x. none (x .0) (record { eleven = x .1 .0 .eleven; accepted = x .1 .0 .codes; written = x .1 .1 }))

@@ -1,17 +1,17 @@
 -- What is promised of sums. Assumes nothing.
 use Prim.Native.Nat.{ℕ, _≤_}
-use mathlib.Core.Path.{_≡_, refl, ap, sym, _∙_}
-use mathlib.Core.Bool.{Bool, true, false, true≢false}
+use mathlib.Core.Path.{_≡_, refl, ap}
+use mathlib.Core.Bool.{Bool, true, false, cond}
 use mathlib.Core.List.{List}
 use mathlib.Core.Logic.{_↔_}
 use Rattle.lut.specs.Answer.{hitOrMiss}
+use Rattle.lut.specs.Back.{Written}
 use Rattle.lut.proofs.Runs.{run-needed}
-use Rattle.sum.specs.declared.ReadSum.{ReadSum}
 use Rattle.sum.specs.Operation.{pairOps, midOps, finalOps, opWord, Accepted}
 use Rattle.sum.specs.Meaning.{sumMeans}
 use Rattle.sum.specs.Words.{wordsOf}
 use Rattle.sum.specs.Model.{runSum}
-use Rattle.sum.specs.Back.{Says, readSum}
+use Rattle.sum.specs.Back.{readSum}
 use Rattle.sum.proofs.Tables.{pairs, mids, finals, words-differ}
 use Rattle.sum.proofs.Meanings.{sum-model}
 use Rattle.sum.proofs.ReadingBack as back
@@ -37,12 +37,11 @@ pub words-read-back : (ops : List ℕ) → Accepted ops → readSum (wordsOf ops
 words-read-back ops a = back.read-written (wordsOf ops) ops (record { eleven = a .eleven; accepted = a .codes; written = refl })
 
 -- words are refused unless an accepted sum writes them [C5, F16, D2.6]
-pub accepted-iff-written : (words : List ℕ) → (readSum words .ok ≡ false → ⊥) ↔ ((ops : List ℕ) × (Accepted ops × (words ≡ wordsOf ops)))
-accepted-iff-written ws = (λ n. go (readSum ws .ok) (readSum ws .ops) n (back.read-says ws), written)
+pub accepted-iff-written : (words : List ℕ) → (readSum words .ok ≡ false → ⊥) ↔ Written Accepted wordsOf words
+accepted-iff-written ws =
+    let numbered = back.read-numbered ws (readSum ws) (back.read-means ws) in
+    (λ n. numbered .read .0 (unrefused (readSum ws .ok) n), λ w e. numbered .refused .0 (ap (λ (ok : Bool). cond {A = ℕ} ok 0 16) e) w)
   where
-    go : (ok : Bool) (ops : List ℕ) → (ok ≡ false → ⊥) → Says ws ok ops → (ops : List ℕ) × (Accepted ops × (ws ≡ wordsOf ops))
-    go true ops n w = (ops, (record { eleven = w .eleven; codes = w .accepted }, w .written))
-    go false ops n w = absurd (n refl)
-
-    written : ((ops : List ℕ) × (Accepted ops × (ws ≡ wordsOf ops))) → readSum ws .ok ≡ false → ⊥
-    written (ops, (a, w)) e = true≢false (sym (ap (λ (r : ReadSum). r .ok) (ap readSum w ∙ words-read-back ops a)) ∙ e)
+    unrefused : (ok : Bool) → (ok ≡ false → ⊥) → _≡_ {A = ℕ} (cond ok 0 16) 0
+    unrefused true n = refl
+    unrefused false n = absurd (n refl)

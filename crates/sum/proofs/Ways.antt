@@ -10,18 +10,18 @@ use native.Mathlib.Omega.{arith}
 use lib.Dec.{lit<}
 use lib.ListN.{length, getD, replicate}
 use lib.Seq.{take-all}
-use Rattle.buffer.specs.Bytes.{Bytes}
+use Rattle.peek.specs.Bytes.{Bytes}
 use Rattle.buffer.specs.Room.{fill}
-use Rattle.buffer.specs.Fields.{Writes}
+use Rattle.peek.specs.Fields.{Writes}
 use Rattle.buffer.proofs.Faults.{unless-none}
-use Rattle.buffer.proofs.Within.{within-bytes}
+use Rattle.peek.proofs.Within.{within-bytes}
 use Rattle.buffer.proofs.Writing.{fill-all}
 use Rattle.sum.specs.declared.ReadSum.{ReadSum}
 use Rattle.sum.specs.Operation.{codesAccepted, Accepted}
 use Rattle.sum.specs.Words.{wordsOf}
 use Rattle.sum.specs.Back.{readSum, Says}
 use Rattle.sum.specs.Description.{size, fromBytes, fault, words, bytesRead, back}
-use Rattle.sum.proofs.ReadingBack.{read-says}
+use Rattle.sum.proofs.ReadingBack.{read-means}
 use Rattle.sum.proofs.ReadingBack.{words-length}
 use Rattle.sum.proofs.Tables.{words-small}
 use Rattle.sum.proofs.Theorems.{words-read-back}
@@ -76,7 +76,7 @@ read-writes ws ops false w h = absurd (not-suc-le-zero h)
 
 pub back-writes : (ws : List ℕ) → 0 < length (back ws) → Writes size fault words ws (back ws)
 unfolding back
-back-writes ws h = read-writes ws (readSum ws .ops) (readSum ws .ok) (read-says ws) h
+back-writes ws h = read-writes ws (readSum ws .ops) (readSum ws .ok) (read-means ws) h
 
 pub words-fit : (d : List ℕ) (i : ℕ) → getD (words d) i 0 < 2 ^ 32
 unfolding words

@@ -1,4 +1,7 @@
 -- The way back: the operation codes that write given chain words, if some do.
+-- A procedure, not a meaning: nothing that is marked computed has to be believed. What it answers is pinned by
+-- `ReadMeans` below: read-means in proofs/ReadingBack, words-read-back and accepted-iff-written in proofs/Theorems
+-- [C5, D2.5, D2.6].
 use Prim.Native.Nat.{ℕ}
 use mathlib.Core.Path.{_≡_}
 use mathlib.Core.Bool.{Bool, true, false, cond, _&&_}
@@ -22,8 +25,8 @@ Says words true ops = WrittenBy words ops
 Says words false ops = (b : List ℕ) → WrittenBy words b → ⊥
 
 -- the same of the answer as one value [C5, F16]
-abbrev pub SaysSum : (words : List ℕ) → ReadSum → Type 0
-SaysSum words r = Says words (r .ok) (r .ops)
+abbrev pub ReadMeans : (words : List ℕ) → ReadSum → Type 0
+ReadMeans words r = Says words (r .ok) (r .ops)
 
 -- computed: the codes of six words, 10 for a half that no operation has; the first word's upper half is 0 [B6, C5, W14]
 unfoldable pub codesOf : List ℕ → List ℕ
@@ -45,6 +48,14 @@ codesOf w =
 abbrev pub known : List ℕ → Bool
 known w = eqb (length w) 6 && codesAccepted (codesOf w)
 
--- computed: the codes that write the words, eleven zeros if none do; see SaysSum, theorem read-says [B6, C5, A7]
+-- computed: the codes that write the words, eleven zeros if none do; see ReadMeans, theorem read-means [B6, C5, A7]
 abbrev pub readSum : List ℕ → ReadSum
 readSum w = record { ok = known w; ops = cond (known w) (codesOf w) (replicate 11 0) }
+
+-- the refusal number for each answer: 16 where no codes write the words, 0 for codes [A5, F16]
+abbrev pub readNumber : ReadSum → ℕ
+readNumber r = cond (r .ok) 0 16
+
+-- its place, counted from the item's own first byte, where its select stands [A5, F16]
+abbrev pub readPlace : ReadSum → ℕ
+readPlace r = 0

@@ -34,6 +34,6 @@ words d = wordsOf (fromBytes d)
 abbrev pub bytesRead : ReadSum → List ℕ
 bytesRead r = cond (r .ok) (toBytes (r .ops)) []
 
--- computed: the description that words are read as, no bytes if there is none; theorem read-says [B6, B7, C5, F16]
+-- computed: the description that words are read as, no bytes if there is none; theorem read-means [B6, B7, C5, F16]
 unfoldable pub back : List ℕ → List ℕ
 back ws = bytesRead (readSum ws)

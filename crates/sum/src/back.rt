@@ -1,6 +1,9 @@
 // The way back: the operation codes that write given chain words, if some do.
 ghost use mathlib.Core.Path.{_≡_};
-ghost use Rattle.sum.specs.Back.{codesOf, readSum, SaysSum};
+ghost use Rattle.lut.specs.Back.{ReadNumbered};
+ghost use Rattle.sum.specs.Operation.{Accepted};
+ghost use Rattle.sum.specs.Words.{wordsOf};
+ghost use Rattle.sum.specs.Back.{codesOf, readSum, ReadMeans, readNumber, readPlace};
 use crate::ReadSum;
 use crate::operation::FINAL;
 use crate::operation::MID;
@@ -30,7 +33,8 @@ fn codes_of(w: [u32; 6]) -> [u8; 11]
 // The operation codes that write these words, if there are any.
 pub fn read_sum(words: &[u32]) -> ReadSum
     ensures { λ r. ⌜ r ≡ readSum (now (words .entry)) ⌝ }
-    ensures meaning { λ r. ⌜ SaysSum (now (words .entry)) r ⌝ }
+    ensures meaning { λ r. ⌜ ReadMeans (now (words .entry)) r ⌝ }
+    ensures { λ r. ⌜ ReadNumbered Accepted wordsOf (now (words .entry)) (readNumber r) (readPlace r) ⌝ }
 {
     if words.len() != 6 {
         return ReadSum {

@@ -27,7 +27,7 @@ fn from_bytes(bytes: &[u8]) -> [u8; 11]
         ];
     }
     let mut ops = [0u8; 11];
-    buffer::put_bytes(&mut ops, buffer::prefix(bytes, 11));
+    buffer::put_bytes(&mut ops, peek::prefix(bytes, 11));
     ops
 }
 

@@ -14,14 +14,17 @@ use lib.Count.{trailingZeros}
 use lib.Dec.{T, eqb, eqb→eq, lit<}
 use lib.ListN.{length, getD}
 use lib.Pow.{pow-add, mod-pow-add}
-use Rattle.buffer.specs.Same.{same}
-use Rattle.buffer.proofs.Compare.{same-refl, same-true}
+use Rattle.peek.specs.Same.{same}
+use Rattle.peek.proofs.Compare.{same-refl, same-true}
 use Rattle.lines.proofs.Computed.{nibbles, everyWithin, every-within}
 use Rattle.lut.specs.Table.{tableOf, down}
 use Rattle.lut.proofs.Tables.{table-lt}
+use Rattle.lut.specs.Back.{ReadNumbered}
 use Rattle.lut.proofs.Down.{down-cong}
-use Rattle.term.specs.Words.{nibbleTable, chainWord, wordAt, termWords}
-use Rattle.term.specs.Back.{nibbleTarget, lineMasked, nibbleMask, tablePart, wordPart, linesAfter, partOf, readTerm, Writes, ReadMeans}
+use Rattle.lut.proofs.Numbers.{numbered-read, numbered-refused}
+use Rattle.term.specs.Rule.{Accepted}
+use Rattle.term.specs.Words.{nibbleTable, chainWord, wordAt, termWords, wordsOf}
+use Rattle.term.specs.Back.{nibbleTarget, lineMasked, nibbleMask, tablePart, wordPart, linesAfter, partOf, readTerm, ReadMeans, readNumber, readPlace}
 use Rattle.term.specs.declared.ReadTerm.{ReadTerm}
 use Rattle.term.specs.declared.ReadTerm.the-variants.{Pattern, Refused}
 use Rattle.term.specs.declared.back.Part.{Part}
@@ -167,6 +170,14 @@ read-means ws = go (same ws (termWords (partOf Target ws) (partOf Mask ws))) ref
         refused-by : same ws (termWords (partOf Target ws) (partOf Mask ws)) ≡ false → readTerm ws ≡ Refused
         refused-by e = rw e
 
+-- and it has these numbers
+pub read-numbered : (ws : List ℕ) (r : ReadTerm) → ReadMeans ws r → ReadNumbered Accepted wordsOf ws (readNumber r) (readPlace r)
+read-numbered ws (Pattern t m) w =
+    numbered-read Accepted wordsOf ws
+    (record { target = t; mask = m }, (record { target-fits = w .target-fits; mask-fits = w .mask-fits }, w .written))
+read-numbered ws Refused none =
+    numbered-refused Accepted wordsOf ws (λ x. none (x .0 .target) (x .0 .mask) (x .1 .0 .target-fits) (x .1 .0 .mask-fits) (x .1 .1))
+
 -- the call: what was decoded, what it writes, and whether that is what was read
 module _ (ws again : List ℕ) (t m : ℕ) (b : Bool) (et : t ≡ partOf Target ws) (em : m ≡ partOf Mask ws) (ea : again ≡ termWords t m)
     (eb : same ws again ≡ b) where
@@ -174,5 +185,9 @@ module _ (ws again : List ℕ) (t m : ℕ) (b : Bool) (et : t ≡ partOf Target 
   unfolding readTerm
   read-picks = rw (← et, ← em, ← ea, eb)
 
-  pub read-says : (cond b (Pattern t m) Refused ≡ readTerm ws) × ReadMeans ws (cond b (Pattern t m) Refused)
-  read-says = (sym read-picks, subst (ReadMeans ws) read-picks (read-means ws))
+  abbrev answer : ReadTerm
+  answer = cond b (Pattern t m) Refused
+
+  pub read-says : (answer ≡ readTerm ws) × (ReadMeans ws answer × ReadNumbered Accepted wordsOf ws (readNumber answer) (readPlace answer))
+  read-says =
+      let means = subst (ReadMeans ws) read-picks (read-means ws) in (sym read-picks, (means, read-numbered ws answer means))

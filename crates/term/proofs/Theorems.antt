@@ -1,36 +1,35 @@
 -- What is promised of patterns. Assumes nothing.
-use mathlib.Core.Path.{_≡_, refl, sym, ap, _∙_, ap₂}
+use mathlib.Core.Path.{_≡_, refl, ap, ap₂}
 use mathlib.Core.Bool.{true}
 use mathlib.Core.List.{List, [], _∷_}
 use mathlib.Core.Logic.{_↔_}
 use Prim.Native.Nat.{ℕ, _^_, _<_}
 use native.Mathlib.Nat.{zero-div}
-use native.Mathlib.Omega.{arith}
 use lib.Dec.{lit<}
 use lib.ListN.{length}
 use lib.Bits.{bitAnd}
 use Rattle.lines.specs.Line.{line}
 use Rattle.lines.proofs.Over.{every-all}
-use Rattle.buffer.specs.Bytes.{Bytes}
-use Rattle.buffer.specs.Fields.{fieldBytes}
-use Rattle.buffer.proofs.FieldLaws.{fields-read, fields-written, fit₂}
+use Rattle.peek.specs.Bytes.{Bytes}
+use Rattle.peek.specs.Fields.{fieldBytes}
+use Rattle.peek.proofs.FieldLaws.{fields-read, fields-written, fit₂}
 use Rattle.term.specs.Description.{size, fromBytes, toBytes}
 use Rattle.lut.specs.Answer.{hitOrMiss}
+use Rattle.lut.specs.Back.{Written}
 use Rattle.lut.specs.Telling.{HitAlike, Says, Least}
 use Rattle.lut.specs.declared.Input.the-variants.{Sample}
-use Rattle.lut.specs.declared.Telling.the-variants.{Alike}
-use Rattle.lut.proofs.Asked.{alike-on-samples, alike-iff}
+use Rattle.lut.proofs.Asked.{alike-on-samples}
 use Rattle.lut.proofs.Runs.{run-needed}
 use Rattle.term.specs.Rule.{lineHit, termHit, hit, Accepted}
-use Rattle.term.specs.Words.{termWords, wordsOf}
+use Rattle.term.specs.Words.{wordsOf}
 use Rattle.term.specs.Model.{chainHit, runTerm}
-use Rattle.term.specs.Back.{readTerm, ReadMeans}
+use Rattle.term.specs.Back.{readTerm, readNumber}
 use Rattle.term.specs.Telling.{termTelling}
 use Rattle.term.specs.declared.Pattern.{Pattern}
 use Rattle.term.specs.declared.ReadTerm.{ReadTerm}
 use Rattle.term.specs.declared.ReadTerm.the-variants as ReadTerm
 use Rattle.term.proofs.Hits.{term-words-length, term-hits}
-use Rattle.term.proofs.ReadingBack.{read-words, read-means}
+use Rattle.term.proofs.ReadingBack.{read-words, read-means, read-numbered}
 use Rattle.term.proofs.SamePattern.{words-alike, alike-words, telling-law}
 
 -- over a pattern's words the model hits exactly when the plain rule does [D2.2]
@@ -50,19 +49,14 @@ pub words-read-back : (p : Pattern) → Accepted p → readTerm (wordsOf p) ≡ 
 words-read-back p a = read-words (p .target) (p .mask) (a .target-fits) (a .mask-fits)
 
 -- words are refused unless an accepted pattern writes them [C5, F16, D2.6]
-pub accepted-iff-written : (words : List ℕ) → (readTerm words ≡ ReadTerm.Refused → ⊥) ↔ ((p : Pattern) × (Accepted p × (words ≡ wordsOf p)))
-accepted-iff-written ws = (λ n. go (readTerm ws) refl n (read-means ws), back)
+pub accepted-iff-written : (words : List ℕ) → (readTerm words ≡ ReadTerm.Refused → ⊥) ↔ Written Accepted wordsOf words
+accepted-iff-written ws =
+    let numbered = read-numbered ws (readTerm ws) (read-means ws) in
+    (λ n. numbered .read .0 (unrefused (readTerm ws) n), λ w e. numbered .refused .0 (ap readNumber e) w)
   where
-    go : (r : ReadTerm) → readTerm ws ≡ r → (r ≡ ReadTerm.Refused → ⊥) → ReadMeans ws r → (p : Pattern) × (Accepted p × (ws ≡ wordsOf p))
-    go (ReadTerm.Pattern t m) e n w =
-        (record { target = t; mask = m }, (record { target-fits = w .target-fits; mask-fits = w .mask-fits }, w .written))
-    go ReadTerm.Refused e n w = absurd (n refl)
-
-    back : ((p : Pattern) × (Accepted p × (ws ≡ wordsOf p))) → readTerm ws ≡ ReadTerm.Refused → ⊥
-    back (p, (a, w)) e =
-        let r : ReadTerm.Pattern (bitAnd (p .target) (p .mask)) (p .mask) ≡ ReadTerm.Refused = sym (ap readTerm w ∙ words-read-back p a) ∙ e in
-        let z : _≡_ {A = ℕ} 0 1 = cc in
-        omega arith
+    unrefused : (r : ReadTerm) → (r ≡ ReadTerm.Refused → ⊥) → readNumber r ≡ 0
+    unrefused (ReadTerm.Pattern t m) n = refl
+    unrefused ReadTerm.Refused n = absurd (n refl)
 
 module _ (a b : Pattern) (p : Accepted a) (q : Accepted b) where
   -- two patterns have the same chain words exactly when no sample tells them apart [D3.1]

@@ -7,10 +7,10 @@ use mathlib.Core.Logic.{_↔_}
 use native.Mathlib.Nat.{not-suc-le-zero}
 use lib.Dec.{lit<}
 use lib.ListN.{length, getD}
-use Rattle.buffer.specs.Bytes.{Bytes}
-use Rattle.buffer.specs.Fields.{fieldOf, fieldBytes, Writes}
-use Rattle.buffer.proofs.Numbers.{u32-small}
-use Rattle.buffer.proofs.FieldLaws.{fields-bytes, fields-read, fields-written, fit₂}
+use Rattle.peek.specs.Bytes.{Bytes}
+use Rattle.peek.specs.Fields.{fieldOf, fieldBytes, Writes}
+use Rattle.peek.proofs.Numbers.{u32-small}
+use Rattle.peek.proofs.FieldLaws.{fields-bytes, fields-read, fields-written, fit₂}
 use Rattle.term.specs.declared.ReadTerm.{ReadTerm}
 use Rattle.term.specs.declared.ReadTerm.the-variants as ReadTerm
 use Rattle.term.specs.declared.Pattern.{Pattern}

@@ -1,5 +1,8 @@
 -- Chain words read back as a pattern: each table is decoded, and the pattern is accepted where it writes the very words
--- that were read. What the answer means is `ReadMeans`, theorem read-means.
+-- that were read.
+-- A procedure, not a meaning: nothing that is marked computed has to be believed. What it answers is pinned by
+-- `ReadMeans` below: read-means in proofs/ReadingBack, words-read-back and accepted-iff-written in proofs/Theorems
+-- [C5, D2.5, D2.6].
 use mathlib.Core.Bool.{Bool, cond}
 use mathlib.Core.List.{List, [], _∷_}
 use mathlib.Core.Path.{_≡_}
@@ -8,7 +11,7 @@ use lib.Bits.{bitAnd, bitXor}
 use lib.Count.{trailingZeros}
 use lib.Dec.{eqb}
 use lib.ListN.{length}
-use Rattle.buffer.specs.Same.{same}
+use Rattle.peek.specs.Same.{same}
 use Rattle.lut.specs.Table.{answerAt, high, low, tableOf}
 use Rattle.term.specs.declared.ReadTerm.{ReadTerm}
 use Rattle.term.specs.declared.ReadTerm.the-variants.{Pattern, Refused}
@@ -62,3 +65,12 @@ pub record Writes (words : List ℕ) (target mask : ℕ) : Type 0 where
 abbrev pub ReadMeans : List ℕ → ReadTerm → Type 0
 ReadMeans words (Pattern target mask) = Writes words target mask
 ReadMeans words Refused = (target mask : ℕ) → target < 2 ^ 32 → mask < 2 ^ 32 → words ≡ termWords target mask → ⊥
+
+-- the refusal number for each answer: 16 where no pattern writes the words, 0 for a pattern [A5, F16]
+abbrev pub readNumber : ReadTerm → ℕ
+readNumber (Pattern target mask) = 0
+readNumber Refused = 16
+
+-- its place, counted from the item's own first byte, where its select stands [A5, F16]
+abbrev pub readPlace : ReadTerm → ℕ
+readPlace r = 0

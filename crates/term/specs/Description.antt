@@ -3,7 +3,7 @@ use Prim.Native.Nat.{ℕ}
 use mathlib.Core.List.{List, [], _∷_}
 use lib.Bits.{bitAnd}
 use Rattle.lut.specs.declared.Telling.{Telling}
-use Rattle.buffer.specs.Fields.{fieldOf, fieldBytes}
+use Rattle.peek.specs.Fields.{fieldOf, fieldBytes}
 use Rattle.term.specs.declared.Pattern.{Pattern}
 use Rattle.term.specs.declared.ReadTerm.{ReadTerm}
 use Rattle.term.specs.declared.ReadTerm.the-variants as ReadTerm

@@ -1,5 +1,6 @@
--- The least sample that tells two patterns apart, as it is computed. What it means is `Says` and `Least` of the crate
--- lut.
+-- The least sample that tells two patterns apart, as it is computed.
+-- A procedure, not a meaning: nothing here has to be believed. What it answers is pinned by lut's `Says` and `Least`:
+-- telling-says and telling-least in proofs/Theorems [D3.6, D3.7].
 use mathlib.Core.Bool.{cond}
 use Prim.Native.Nat.{ℕ, _+_, _^_, min}
 use lib.Bits.{bitAnd, bitXor}

@@ -1,6 +1,9 @@
 // The way back: the pattern that writes given chain words, or a refusal. The words are decoded, and the pattern is encoded again.
 ghost use mathlib.Core.Path.{_≡_};
-ghost use Rattle.term.specs.Back.{nibbleTarget, nibbleMask, tablePart, wordPart, partOf, readTerm, ReadMeans};
+ghost use Rattle.lut.specs.Back.{ReadNumbered};
+ghost use Rattle.term.specs.Rule.{Accepted};
+ghost use Rattle.term.specs.Words.{wordsOf};
+ghost use Rattle.term.specs.Back.{nibbleTarget, nibbleMask, tablePart, wordPart, partOf, readTerm, ReadMeans, readNumber, readPlace};
 use super::ReadTerm;
 
 // Which of a pattern's two numbers is decoded.
@@ -68,11 +71,12 @@ fn four_part(part: Part, words: &[u32]) -> u32
 pub fn read_term(words: &[u32]) -> ReadTerm
     ensures { λ r. ⌜ r ≡ readTerm (now (words .entry)) ⌝ }
     ensures { λ r. ⌜ ReadMeans (now (words .entry)) r ⌝ }
+    ensures { λ r. ⌜ ReadNumbered Accepted wordsOf (now (words .entry)) (readNumber r) (readPlace r) ⌝ }
 {
     let target = four_part(Part::Target, words);
     let mask = four_part(Part::Mask, words);
     let again = super::words::term_words(target, mask);
-    if buffer::same_words(words, &again) {
+    if peek::same_words(words, &again) {
         ReadTerm::Pattern(target, mask)
     } else {
         ReadTerm::Refused

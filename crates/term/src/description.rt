@@ -11,8 +11,8 @@ fn from_bytes(bytes: &[u8]) -> Pattern
     ensures { λ r. ⌜ r ≡ description.fromBytes (now (bytes .entry)) ⌝ }
 {
     Pattern {
-        target: buffer::field(bytes, 0),
-        mask: buffer::field(bytes, 1),
+        target: peek::field(bytes, 0),
+        mask: peek::field(bytes, 1),
     }
 }
 

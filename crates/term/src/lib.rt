@@ -14,8 +14,6 @@ pub use description::put_words;
 pub use description::telling_of;
 pub use model::run_term;
 pub use rule::term_hit;
-pub use telling::term_telling;
-pub use words::term_words;
 
 // A description, which asks for the target on all masked lines.
 pub struct Pattern {

@@ -1,5 +1,6 @@
 // The model: any four words, run on a sample.
 ghost use mathlib.Core.Path.{_≡_};
+ghost use Rattle.lut.specs.Answer.{RunNumbered};
 ghost use Rattle.term.specs.Model.{wordHit, runTerm};
 
 // Whether both tables of a word answer 1 for the lowest eight lines.
@@ -16,6 +17,7 @@ fn word_hit(word: u32, sample: u32) -> bool
 // A hit if none of the eight tables answers 0. All are asked: an early end would be mispredicted.
 pub fn run_term(words: &[u32], sample: u32) -> lut::Answer
     ensures { λ r. ⌜ r ≡ runTerm (now (words .entry)) sample ⌝ }
+    ensures { λ r. ⌜ RunNumbered 4 (now (words .entry)) r ⌝ }
 {
     if words.len() != 4 {
         return lut::Answer::WrongCount(4);

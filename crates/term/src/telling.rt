@@ -9,7 +9,7 @@ use lut::Telling;
 
 // By the targets cut to the masks: where they differ, the lesser; where only the masks differ, the target with the lowest line
 // that one mask has and the other has not.
-pub fn term_telling(t1: u32, m1: u32, t2: u32, m2: u32) -> Telling
+pub(crate) fn term_telling(t1: u32, m1: u32, t2: u32, m2: u32) -> Telling
     ensures { λ r. ⌜ r ≡ termTelling t1 m1 t2 m2 ⌝ }
     ensures { λ r. ⌜ Says (onSample (termHit t1 m1)) (onSample (termHit t2 m2)) r ⌝ }
     ensures { λ r. ⌜ Least (onSample (termHit t1 m1)) (onSample (termHit t2 m2)) r ⌝ }

@@ -25,7 +25,7 @@ fn chain_word(target: u32, mask: u32) -> u32
 }
 
 // The four chain words of a pattern in sending order.
-pub fn term_words(target: u32, mask: u32) -> [u32; 4]
+pub(crate) fn term_words(target: u32, mask: u32) -> [u32; 4]
     ensures { λ r. ⌜ r ≡ termWords target mask ⌝ }
 {
     [

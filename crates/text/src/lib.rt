@@ -6,7 +6,6 @@ mod put;
 
 pub use names::field_count;
 pub use names::field_name;
-pub use names::meaning;
 pub use names::operation_name;
 pub use names::section_name;
 pub use names::stage_name;

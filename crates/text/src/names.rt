@@ -91,27 +91,3 @@ pub fn operation_name(code: u8) -> [u8; 8] {
         _ => *b"?       ",
     }
 }
-
-// What a refusal's number means.
-pub fn meaning(number: u8) -> [u8; 52] {
-    match number {
-        1 => *b"count or record incomplete                          ",
-        2 => *b"count above the section's most                      ",
-        3 => *b"slot too big                                        ",
-        4 => *b"slot not rising                                     ",
-        5 => *b"bad label byte                                      ",
-        6 => *b"lower bound is 0                                    ",
-        7 => *b"lower bound above upper                             ",
-        8 => *b"upper bound too big for the mask's lines            ",
-        9 => *b"neither together with rise or fall on a line        ",
-        10 => *b"operation above 9                                   ",
-        11 => *b"bytes left over                                     ",
-        12 => *b"output too short (the place is the bytes needed)    ",
-        13 => *b"stream ends inside a command or item                ",
-        14 => *b"opcode other than the one due                       ",
-        15 => *b"address unknown, not rising, or not the one due     ",
-        16 => *b"words that no accepted description writes           ",
-        17 => *b"wrong word count (the place is the count needed)    ",
-        _ => *b"not a refusal's number                              ",
-    }
-}

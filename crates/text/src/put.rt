@@ -20,7 +20,7 @@ pub fn put_bits(out: &mut [u8], at: usize, before: &[u8], n: u32, width: usize) 
 
 // A number in decimal with spaces before it, four places wide where that is enough.
 pub fn put_padded(out: &mut [u8], at: usize, n: usize) -> usize {
-    let from = buffer::put_at(out, at, buffer::prefix(b"   ", spaces_before(n)));
+    let from = buffer::put_at(out, at, peek::prefix(b"   ", spaces_before(n)));
     put_decimal(out, from, n)
 }
 
@@ -41,7 +41,7 @@ pub fn put_hex(out: &mut [u8], at: usize, n: u32, width: usize) -> usize {
     let mut digits = [0u8; 16];
     let count = io::hex(n as u64, width, &mut digits);
     let text = capitals(digits);
-    buffer::put_at(out, at, buffer::prefix(&text, count))
+    buffer::put_at(out, at, peek::prefix(&text, count))
 }
 
 fn capitals(digits: [u8; 16]) -> [u8; 16] {
@@ -60,7 +60,7 @@ fn capital(digit: u8) -> u8 {
 
 // A text without the spaces at its end.
 pub fn put_trimmed(out: &mut [u8], at: usize, text: &[u8]) -> usize {
-    buffer::put_at(out, at, buffer::prefix(text, trimmed(text)))
+    buffer::put_at(out, at, peek::prefix(text, trimmed(text)))
 }
 
 // How many bytes a text has without the spaces at its end.
@@ -81,7 +81,7 @@ pub fn put_quoted(out: &mut [u8], at: usize, label: &[u8], quote: &[u8]) -> usiz
     buffer::put_bytes(&mut copy, label);
     make_plain(&mut copy, 0x7e);
     let opened = buffer::put_at(out, at, quote);
-    let closed = buffer::put_at(out, opened, buffer::prefix(&copy, label.len()));
+    let closed = buffer::put_at(out, opened, peek::prefix(&copy, label.len()));
     buffer::put_at(out, closed, quote)
 }
 

@@ -13,7 +13,7 @@ use Rattle.buffer.proofs.Writing.{front-count, front-room, front-text}
 use Rattle.sheet.specs.Reading.{verdict}
 use Rattle.sheet.proofs.Laid.{judged-accepted}
 use Rattle.notice.proofs.Lengths.{at-most}
-use Rattle.notice.proofs.Answers.{given-old, given-new, given-short, given-done}
+use Rattle.notice.proofs.Answers.{given-numbered, given-old, given-new, given-short, given-done}
 use borrow.Author.Needs.{needs}
 use Rattle.notice.proofs.notice.Statement.{statement}
 use Rattle.notice.proofs.notice.Tie as tie
@@ -35,7 +35,8 @@ judge-parts-requires c κs = search needs
 returns : tie.Need-returns
 returns c =
     let a = c .before .before .before .before .before .before .args in
-    given-old (now (a .old)) (now (a .new)) (now (a .out)) _ (c .before .before .judge-parts .ensures) (c .if1 .taken)
+    given-numbered (now (a .old)) (now (a .new)) (now (a .out)) _ _
+    (given-old (now (a .old)) (now (a .new)) (now (a .out)) _ (c .before .before .judge-parts .ensures) (c .if1 .taken))
 
 judge-parts-requires-2 : tie.Need-judge-parts-requires-2
 judge-parts-requires-2 c κs = search needs
@@ -43,7 +44,8 @@ judge-parts-requires-2 c κs = search needs
 returns-2 : tie.Need-returns-2
 returns-2 c =
     let a = c .before .before .before .before .before .before .before .before .before .args in
-    given-new (now (a .old)) (now (a .new)) (now (a .out)) _ (old-accepted (c .before .before .before)) (c .before .before .judge-parts2 .ensures) (c .if2 .taken)
+    given-numbered (now (a .old)) (now (a .new)) (now (a .out)) _ _
+    (given-new (now (a .old)) (now (a .new)) (now (a .out)) _ (old-accepted (c .before .before .before)) (c .before .before .judge-parts2 .ensures) (c .if2 .taken))
 
 slice-aggregate-put-sections : tie.Need-slice-aggregate-put-sections
 slice-aggregate-put-sections c = search needs
@@ -56,7 +58,8 @@ put-sections-requires c κs =
 returns-3 : tie.Need-returns-3
 returns-3 c =
     let a = c .before .before .before .before .before .before .before .before .before .before .before .before .before .args in
-    given-short (now (a .old)) (now (a .new)) (now (a .out)) (old-accepted (c .before .before .before .before .before .before .before)) (new-accepted (c .before .before .before .before)) _ (front-count _ _ _ _ (c .before .before .put-sections .ensures)) (c .if3 .taken)
+    given-numbered (now (a .old)) (now (a .new)) (now (a .out)) _ _
+    (given-short (now (a .old)) (now (a .new)) (now (a .out)) (old-accepted (c .before .before .before .before .before .before .before)) (new-accepted (c .before .before .before .before)) _ (front-count _ _ _ _ (c .before .before .put-sections .ensures)) (c .if3 .taken))
 
 array-share-prefix-room : tie.Need-array-share-prefix-room
 array-share-prefix-room c = front-room _ _ _ _ (c .before .before .before .put-sections .ensures)
@@ -74,8 +77,9 @@ returns-4 : tie.Need-returns-4
 returns-4 c =
     let a = c .before .before .before .before .before .before .before .before .before .before .before .before .before .before .before .before .before .before .args in
     let w = c .before .before .before .before .before .before .before .put-sections .ensures in
-    given-done (now (a .old)) (now (a .new)) (now (a .out)) (old-accepted (c .before .before .before .before .before .before .before .before .before .before .before .before)) (new-accepted (c .before .before .before .before .before .before .before .before .before)) _ (front-count _ _ _ _ w) _ (omega arith)
-    (c .before .before .put .ensures .left ∙ ap (λ (x : List ℕ). write 0 x (now (a .out))) (front-text _ _ _ _ w))
+    given-numbered (now (a .old)) (now (a .new)) (now (a .out)) _ _
+    (given-done (now (a .old)) (now (a .new)) (now (a .out)) (old-accepted (c .before .before .before .before .before .before .before .before .before .before .before .before)) (new-accepted (c .before .before .before .before .before .before .before .before .before)) _ (front-count _ _ _ _ w) _ (omega arith)
+    (c .before .before .put .ensures .left ∙ ap (λ (x : List ℕ). write 0 x (now (a .out))) (front-text _ _ _ _ w)))
 
 pub notice-spec : {M : Type 1} → statement M
 notice-spec =

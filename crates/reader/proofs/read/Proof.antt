@@ -17,8 +17,9 @@ returns c =
 
 returns-2 : tie.Need-returns-2
 returns-2 c =
-    let ok = sym (c .before .before .before .before .before .before .before .before .walk .ensures .answer) ∙ c .before .before .before .before .before .enum-told .given .1 in
-    let d = accepted _ _ _ _ _ ok (delivers (c .before .before .before .before .before .before .before .before .walk .ensures .sheet ok) (c .before .before .put-sheet .ensures)) in
+    let walk = c .before .before .before .before .before .before .before .before .walk in
+    let ok = sym (walk .ensures .answer) ∙ c .before .before .before .before .before .enum-told .given .1 in
+    let d = accepted _ _ _ _ _ ok (delivers (walk .ensures .sheet ok) (c .before .before .put-sheet .ensures)) in
     (d, read-says _ (λ i. c .before .before .before .before .before .before .before .before .before .before .before .shared-slice-known .given i .fits) _ _ _ d)
 
 slice-aggregate-walk : tie.Need-slice-aggregate-walk

@@ -14,7 +14,7 @@ hand-verdict-requires c κs = search needs
 returns : tie.Need-returns
 returns c =
     let handed = c .hand-verdict .ensures in
-    let checked = c .before .before .check .ensures in
+    let checked = c .before .before .check .ensures .0 in
     (handed .0 ∙ ap verdictNumber checked, handed .1 ∙ ap verdictPlace checked)
 
 pub voltamar-check-spec : {M : Type 1} → statement M

@@ -17,7 +17,7 @@ same-length c = search needs
 returns : tie.Need-returns
 returns c =
     let handed = c .hand-noticed .ensures in
-    let given = c .before .before .before .before .before .notice .ensures in (
+    let given = c .before .before .before .before .before .notice .ensures .0 in (
       handed .0 ∙ ap noticedNumber (given .answer),
       (
         handed .1 .0 ∙ ap noticedWhich (given .answer),

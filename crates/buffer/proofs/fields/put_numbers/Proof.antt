@@ -6,12 +6,12 @@ use mathlib.Core.List.{List, []}
 use denote.Ref.{now}
 use lib.ListN.{length, drop, getD}
 use native.Mathlib.Omega.{arith}
-use Rattle.buffer.specs.Bytes.{u32Bytes}
+use Rattle.peek.specs.Bytes.{u32Bytes}
 use Rattle.buffer.specs.Room.{write}
 use Rattle.buffer.proofs.Writing.{wrote, too-short, Pending, pending-start, pending-step, pending-end}
-use Rattle.buffer.specs.Fields.{fieldBytes}
-use Rattle.buffer.proofs.FieldLaws.{fields-length}
-use Rattle.buffer.proofs.FieldLaws.{fields-from, fields-end}
+use Rattle.peek.specs.Fields.{fieldBytes}
+use Rattle.peek.proofs.FieldLaws.{fields-length}
+use Rattle.peek.proofs.FieldLaws.{fields-from, fields-end}
 use borrow.Author.Needs.{needs}
 use Rattle.buffer.proofs.fields.put_numbers.Statement.{statement}
 use Rattle.buffer.proofs.fields.put_numbers.Tie as tie

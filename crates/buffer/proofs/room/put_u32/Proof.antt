@@ -4,7 +4,7 @@ use mathlib.Core.Path.{refl}
 use denote.Ref.{now}
 use lib.ListN.{length-set}
 use native.Mathlib.Omega.{arith}
-use Rattle.buffer.specs.Bytes.{u32Bytes}
+use Rattle.peek.specs.Bytes.{u32Bytes}
 use Rattle.buffer.proofs.Writing.{wrote, too-short, stored}
 use borrow.Author.Needs.{needs}
 use Rattle.buffer.proofs.room.put_u32.Statement.{statement}

@@ -8,7 +8,7 @@ use lib.ListN.{length, set, length-set}
 use native.Mathlib.Omega.{arith}
 use borrow.Rule.Slice.PartMut.{midOf, putMid}
 use Rattle.buffer.specs.declared.Outcome.{Outcome}
-use Rattle.buffer.specs.Bytes.{u32Bytes}
+use Rattle.peek.specs.Bytes.{u32Bytes}
 use Rattle.buffer.specs.Room.{bytes, fill, Delivered}
 use Rattle.buffer.proofs.Writing.{wrote, too-short, Pending, pending-start, pending-store, pending-step, pending-end}
 use Rattle.command.specs.Command.{command}
@@ -49,9 +49,10 @@ same-length c =
 
 returns-2 : tie.Need-returns-2
 returns-2 c =
+    let if1 = c .before .before .before .before .if1 in
     let a = c .before .before .before .before .before .before .args in
-    let done = both (a .op) (a .n) (now (a .out)) _ _ (c .before .before .before .before .if1 .left) (c .before .before .put-u32 .ensures) in
-    wrote (command (a .op) (a .n)) (now (a .out)) _ 5 (c .before .before .before .before .if1 .left) refl (pending-end _ _ 5 _ done)
+    let done = both (a .op) (a .n) (now (a .out)) _ _ (if1 .left) (c .before .before .put-u32 .ensures) in
+    wrote (command (a .op) (a .n)) (now (a .out)) _ 5 (if1 .left) refl (pending-end _ _ 5 _ done)
 
 pub put-command-spec : {M : Type 1} → statement M
 put-command-spec =

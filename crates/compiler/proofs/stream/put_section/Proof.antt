@@ -3,7 +3,7 @@
 -- Assumes nothing.
 use Prim.Native.Nat.{ℕ, zero-le, _+_, _-_, _≤_}
 use mathlib.Core.Path.{_≡_, refl, sym, ap, _∙_}
-use mathlib.Core.List.{List, []}
+use mathlib.Core.List.{List, [], _++_}
 use native.Mathlib.Omega.{arith}
 use borrow.Author.Needs.{needs}
 use denote.Ref.{now}
@@ -38,10 +38,11 @@ item-size-requires c κs = search needs
 
 loop-holds : tie.Need-loop-holds Inv-loop μ-loop
 loop-holds c =
-    let a = c .before .before .before .before .args in
+    let at-args = c .before .before .before .before in
+    let a = at-args .args in
     let k : ℕ = a .section in
     let same = ap length (items-joined k (recordsIn k (now (a .part)))) in
-    (refl, zero-le, c .before .before .before .before .pre .0, refl, pending-start (a .at) _ _ (omega (arith, same, c .before .before .before .before .pre .1)))
+    (refl, zero-le, at-args .pre .0, refl, pending-start (a .at) _ _ (omega (arith, same, at-args .pre .1)))
 
 sub-loop : tie.Need-sub-loop Inv-loop μ-loop
 sub-loop c = omega (arith, c .loop .inv .1)
@@ -64,76 +65,73 @@ part-put-item-end c = search needs
 slice-aggregate-put-item : tie.Need-slice-aggregate-put-item Inv-loop μ-loop
 slice-aggregate-put-item c = search needs
 
+-- a whole record is left of the part
+module _ (p : tie.After-prefix Inv-loop μ-loop) where
+  abbrev k : ℕ
+  k = p .before .before .before .before .before .before .before .before .args .section
+
+  abbrev part : List ℕ
+  part = now (p .before .before .before .before .before .before .before .before .args .part)
+
+  abbrev from : ℕ
+  from = p .before .before .before .loop .from
+
+  abbrev size : ℕ
+  size = p .before .before .before .before .before .record-size .result
+
+  abbrev r : List ℕ
+  r = take size (drop from part)
+
+  size-is : size ≡ recordSize k
+  size-is = p .before .before .before .before .before .record-size .ensures
+
+  whole : size ≤ length part - from
+  whole = p .before .before .loop-test .taken
+
+  cut : now (p .prefix .result) ≡ r
+  cut = p .prefix .ensures ∙ ap (take size) (p .before .suffix .ensures)
+
+  next : items k (recordsIn k (drop from part)) ≡ item k r ++ items k (recordsIn k (drop (from + size) part))
+  next = rest-items k part from size size-is whole
+
+  lengths : length (items k (recordsIn k (drop from part))) ≡ length (item k r) + length (items k (recordsIn k (drop (from + size) part)))
+  lengths = ap length next ∙ length-append (item k r) (items k (recordsIn k (drop (from + size) part)))
+
+  long : p .before .before .before .before .item-size .result ≡ length (item k r)
+  long = p .before .before .before .before .item-size .ensures ∙ sym (item-length k r)
+
 put-item-requires : tie.Need-put-item-requires Inv-loop μ-loop
 put-item-requires c κs =
-    let a = c .before .before .before .before .before .before .before .before .before .before .args in
-    let l = c .before .before .before .before .before .loop in
-    let k : ℕ = a .section in
-    let part : List ℕ = now (a .part) in
-    let size = c .before .before .before .before .before .before .before .record-size .result in
-    let e : size ≡ recordSize k = c .before .before .before .before .before .before .before .record-size .ensures in
-    let whole : size ≤ length part - l .from = c .before .before .before .before .loop-test .taken in
-    let r : List ℕ = take size (drop (l .from) part) in
-    let same = c .before .before .prefix .ensures ∙ ap (take size) (c .before .before .before .suffix .ensures) in
-    (rw same (rest-ordered k part (l .from) size e whole (l .inv .2) .0), l .inv .0)
+    let p = c .before .before in
+    let inv = p .before .before .before .loop .inv in
+    (rw (cut p) (rest-ordered (k p) (part p) (from p) (size p) (size-is p) (whole p) (inv .2) .0), inv .0)
 
 add-to : tie.Need-add-to Inv-loop μ-loop
 add-to c =
-    let a = c .before .before .before .before .before .before .before .before .before .before .before .before .before .before .args in
-    let l = c .before .before .before .before .before .before .before .before .before .loop in
-    let k : ℕ = a .section in
-    let part : List ℕ = now (a .part) in
-    let size = c .before .before .before .before .before .before .before .before .before .before .before .record-size .result in
-    let e : size ≡ recordSize k = c .before .before .before .before .before .before .before .before .before .before .before .record-size .ensures in
-    let whole : size ≤ length part - l .from = c .before .before .before .before .before .before .before .before .loop-test .taken in
-    let r : List ℕ = take size (drop (l .from) part) in
-    let next = ap length (rest-items k part (l .from) size e whole) ∙ length-append (item k r) (items k (recordsIn k (drop (l .from + size) part))) in
-    let long = item-length k r in
-    omega (arith, next, long, c .before .before .before .before .before .before .before .before .before .before .item-size .ensures, l .inv .4 .room)
+    let p = c .before .before .before .before .before .before in
+    omega (arith, lengths p, long p, p .before .before .before .loop .inv .4 .room)
 
 add-from : tie.Need-add-from Inv-loop μ-loop
 add-from c =
-    let a = c .before .before .before .before .before .before .before .before .before .before .before .before .before .before .args in
-    let l = c .before .before .before .before .before .before .before .before .before .loop in
-    let k : ℕ = a .section in
-    let part : List ℕ = now (a .part) in
-    let size = c .before .before .before .before .before .before .before .before .before .before .before .record-size .result in
-    let e : size ≡ recordSize k = c .before .before .before .before .before .before .before .before .before .before .before .record-size .ensures in
-    let whole : size ≤ length part - l .from = c .before .before .before .before .before .before .before .before .loop-test .taken in
-    let r : List ℕ = take size (drop (l .from) part) in
-    omega (arith, whole, l .inv .1)
+    let p = c .before .before .before .before .before .before in
+    omega (arith, whole p, p .before .before .before .loop .inv .1)
 
 loop-less : tie.Need-loop-less Inv-loop μ-loop
 loop-less c =
-    let a = c .before .before .before .before .before .before .before .before .before .before .before .before .before .before .args in
-    let l = c .before .before .before .before .before .before .before .before .before .loop in
-    let k : ℕ = a .section in
-    let part : List ℕ = now (a .part) in
-    let size = c .before .before .before .before .before .before .before .before .before .before .before .record-size .result in
-    let e : size ≡ recordSize k = c .before .before .before .before .before .before .before .before .before .before .before .record-size .ensures in
-    let whole : size ≤ length part - l .from = c .before .before .before .before .before .before .before .before .loop-test .taken in
-    let r : List ℕ = take size (drop (l .from) part) in
-    omega (arith, whole, e, l .inv .1)
+    let p = c .before .before .before .before .before .before in
+    omega (arith, whole p, size-is p, p .before .before .before .loop .inv .1)
 
 loop-again : tie.Need-loop-again Inv-loop μ-loop
 loop-again c =
-    let a = c .before .before .before .before .before .before .before .before .before .before .before .before .before .before .args in
-    let l = c .before .before .before .before .before .before .before .before .before .loop in
-    let k : ℕ = a .section in
-    let part : List ℕ = now (a .part) in
-    let size = c .before .before .before .before .before .before .before .before .before .before .before .record-size .result in
-    let e : size ≡ recordSize k = c .before .before .before .before .before .before .before .before .before .before .before .record-size .ensures in
-    let whole : size ≤ length part - l .from = c .before .before .before .before .before .before .before .before .loop-test .taken in
-    let r : List ℕ = take size (drop (l .from) part) in
-    let next = ap length (rest-items k part (l .from) size e whole) ∙ length-append (item k r) (items k (recordsIn k (drop (l .from + size) part))) in
-    let long = item-length k r in
-    let same = c .before .before .before .before .before .before .prefix .ensures ∙ ap (take size) (c .before .before .before .before .before .before .before .suffix .ensures) in (
-      c .before .before .before .put-item .kept .1 .1 .1 .0 ∙ l .inv .0,
-      omega (arith, whole, l .inv .1),
-      rest-ordered k part (l .from) size e whole (l .inv .2) .1,
-      omega (arith, next, long, c .before .before .before .before .before .before .before .before .before .before .item-size .ensures, l .inv .3),
-      pending-step _ _ (l .to) _ _ (item k r) _ (l .out) _ _ (rest-items k part (l .from) size e whole)
-          (ap (λ (n : ℕ). l .to + n) (c .before .before .before .before .before .before .before .before .before .before .item-size .ensures ∙ sym long)) (l .inv .4) (delivers (sym (item-joined k _) ∙ ap (item k) same) (c .before .before .before .put-item .ensures)),
+    let p = c .before .before .before .before .before .before in
+    let l = p .before .before .before .loop in
+    let put-item = c .before .before .before .put-item in (
+      put-item .kept .1 .1 .1 .0 ∙ l .inv .0,
+      omega (arith, whole p, l .inv .1),
+      rest-ordered (k p) (part p) (from p) (size p) (size-is p) (whole p) (l .inv .2) .1,
+      omega (arith, lengths p, long p, l .inv .3),
+      pending-step _ _ (l .to) _ _ (item (k p) (r p)) _ (l .out) _ _ (next p) (ap (λ (n : ℕ). l .to + n) (long p)) (l .inv .4)
+          (delivers (sym (item-joined (k p) _) ∙ ap (item (k p)) (cut p)) (put-item .ensures)),
     )
 
 same-length : tie.Need-same-length Inv-loop μ-loop

@@ -104,12 +104,13 @@ same-length c = search needs
 
 returns-2 : tie.Need-returns-2 Inv-loop μ-loop
 returns-2 c =
-    let p : List (List (List ℕ)) = parse (now (c .before .before .before .before .before .before .args .sheet)) in
+    let args = c .before .before .before .before .before .before .args in
+    let p : List (List (List ℕ)) = parse (now (args .sheet)) in
     let l = c .before .loop in
     let size = c .before .before .before .stream-size .ensures ∙ ap length (stream-sent p) in
     let done : Pending _ _ (l .at) [] (l .out) = rw (sent-end sendingOrder p (l .i) (omega arith)) at (l .inv .1) in
     delivers (sym (stream-sent p))
-    (wrote (sent sendingOrder p) (now (c .before .before .before .before .before .before .args .out)) _ _ (omega (arith, size, c .before .before .if1 .left)) size (pending-end _ _ _ _ done))
+    (wrote (sent sendingOrder p) (now (args .out)) _ _ (omega (arith, size, c .before .before .if1 .left)) size (pending-end _ _ _ _ done))
 
 pub put-stream-spec : {M : Type 1} → statement M
 put-stream-spec =

@@ -38,15 +38,17 @@ item-size-requires c κs = search needs
 
 mul-result : tie.Need-mul-result
 mul-result c =
-    let a = c .before .before .before .before .args in
-    let p = c .before .before .before .before .pre in
+    let at-args = c .before .before .before .before in
+    let a = at-args .args in
+    let p = at-args .pre in
     let m = measured (now (a .sheet)) (p .0) (a .section) (p .2) _ _ _ (c .before .before .part-of .ensures) (c .before .record-count .ensures) (c .item-size .ensures) in
     record { fits = omega (arith, m .1) }
 
 returns : tie.Need-returns
 returns c =
-    let a = c .before .before .before .before .args in
-    let p = c .before .before .before .before .pre in
+    let at-args = c .before .before .before .before in
+    let a = at-args .args in
+    let p = at-args .pre in
     measured (now (a .sheet)) (p .0) (a .section) (p .2) _ _ _ (c .before .before .part-of .ensures) (c .before .record-count .ensures) (c .item-size .ensures)
 
 pub section-size-spec : {M : Type 1} → statement M

@@ -8,7 +8,7 @@ use denote.Ref.{now}
 use native.Mathlib.Omega.{arith}
 use lib.ListN.{drop}
 use Rattle.edge.specs.Model.{wordsHit}
-use Rattle.lut.proofs.Runs.{run-needed, run-other}
+use Rattle.lut.proofs.Runs.{run-needed, run-other, run-meets}
 use Rattle.edge.proofs.WordLaws.{walk-hit, walk-on, walk-end}
 use Rattle.edge.proofs.model.run_edge.Statement.{statement}
 use Rattle.edge.proofs.model.run_edge.Tie as tie
@@ -23,7 +23,8 @@ abbrev μ-loop : tie.MeasureT-loop
 returns : tie.Need-returns Inv-loop μ-loop
 returns c =
     let a = c .before .before .args in
-    sym (run-other 8 (now (a .words)) (wordsHit (now (a .words)) (a .earlier) (a .later)) (c .if1 .taken))
+    let hit = wordsHit (now (a .words)) (a .earlier) (a .later) in
+    run-meets 8 (now (a .words)) hit _ (sym (run-other 8 (now (a .words)) hit (c .if1 .taken)))
 
 loop-holds : tie.Need-loop-holds Inv-loop μ-loop
 loop-holds c = search needs
@@ -48,9 +49,11 @@ returns-2 c =
     let a = c .before .before .before .before .before .before .before .args in
     let l = c .before .before .before .before .loop in
     let ws = now (a .words) in
-    sym
-    (run-needed 8 ws (wordsHit ws (a .earlier) (a .later)) true (omega arith)
-    (walk-hit ws (a .earlier) (a .later) (l .i) _ (omega arith) (omega arith) (l .inv .1) (sym (c .before .word-hit .ensures) ∙ c .if2 .taken)))
+    let hit = wordsHit ws (a .earlier) (a .later) in
+    run-meets 8 ws hit _
+    (sym
+    (run-needed 8 ws hit true (omega arith)
+    (walk-hit ws (a .earlier) (a .later) (l .i) _ (omega arith) (omega arith) (l .inv .1) (sym (c .before .word-hit .ensures) ∙ c .if2 .taken))))
 
 add-i : tie.Need-add-i Inv-loop μ-loop
 add-i c = search needs
@@ -72,9 +75,9 @@ returns-3 c =
     let a = c .before .before .before .before .args in
     let l = c .before .loop in
     let ws = now (a .words) in
-    sym
-    (run-needed 8 ws (wordsHit ws (a .earlier) (a .later)) false (omega arith)
-    (l .inv .1 ∙ walk-end ws (a .earlier) (a .later) (l .i) (omega arith)))
+    let hit = wordsHit ws (a .earlier) (a .later) in
+    run-meets 8 ws hit _
+    (sym (run-needed 8 ws hit false (omega arith) (l .inv .1 ∙ walk-end ws (a .earlier) (a .later) (l .i) (omega arith))))
 
 pub run-edge-spec : {M : Type 1} → statement M
 run-edge-spec =

@@ -40,7 +40,9 @@ cast-put-slot : tie.Need-cast-put-slot Inv-loop μ-loop
 cast-put-slot c = omega (arith, most-byte (c .before .before .before .before .before .before .before .before .before .args .section))
 
 put-slot-requires : tie.Need-put-slot-requires Inv-loop μ-loop
-put-slot-requires c κs = walking-room _ _ (now (c .before .before .before .before .before .before .before .before .before .args .old)) (now (c .before .before .before .before .before .before .before .before .before .args .new)) _ _ _ _ _ _ _ _ (c .before .before .before .before .loop .inv .1) (omega arith) (c .before .before .record-with .ensures) (c .before .record-with2 .ensures)
+put-slot-requires c κs =
+    let a = c .before .before .before .before .before .before .before .before .before .args in
+    walking-room _ _ (now (a .old)) (now (a .new)) _ _ _ _ _ _ _ _ (c .before .before .before .before .loop .inv .1) (omega arith) (c .before .before .record-with .ensures) (c .before .record-with2 .ensures)
 
 add-i : tie.Need-add-i Inv-loop μ-loop
 add-i c = let w = c .before .before .before .before .before .before .before .loop .inv .1 in
@@ -57,8 +59,10 @@ loop-less : tie.Need-loop-less Inv-loop μ-loop
 loop-less c = omega arith
 
 loop-again : tie.Need-loop-again Inv-loop μ-loop
-loop-again c = let i = c .before .before .before .before .before .before .before .loop .inv in
-    (i .0, walking-turn _ _ (now (c .before .before .before .before .before .before .before .before .before .before .before .before .args .old)) (now (c .before .before .before .before .before .before .before .before .before .before .before .before .args .new)) _ _ _ _ _ _ _ _ (i .1) (omega arith) (c .before .before .before .before .before .record-with .ensures) (c .before .before .before .before .record-with2 .ensures) _ _ (c .before .before .put-slot .ensures))
+loop-again c =
+    let a = c .before .before .before .before .before .before .before .before .before .before .before .before .args in
+    let i = c .before .before .before .before .before .before .before .loop .inv in
+    (i .0, walking-turn _ _ (now (a .old)) (now (a .new)) _ _ _ _ _ _ _ _ (i .1) (omega arith) (c .before .before .before .before .before .record-with .ensures) (c .before .before .before .before .record-with2 .ensures) _ _ (c .before .before .put-slot .ensures))
 
 same-length : tie.Need-same-length Inv-loop μ-loop
 same-length c = c .before .loop .inv .1 .left .pending .size

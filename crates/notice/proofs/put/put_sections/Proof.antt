@@ -15,15 +15,23 @@ abbrev μ-loop : tie.MeasureT-loop
 μ-loop out₀ old new olds news at₀ section₀ out at section = sections - section
 
 -- the parts are cut out of the sheets
-old-cut : (c : tie.After-prefix Inv-loop μ-loop) → Cut (now (c .before .before .before .before .before .before .before .before .before .args .old)) (c .before .before .before .before .before .before .before .before .before .args .t4) (c .before .before .before .before .before .loop .section) (now (c .prefix .result))
-old-cut c =
-    let s = c .before .before .before .before .before .before .before .before .before in
-    record { accepted = s .pre .1 .0 .0; laid = s .pre .1 .0 .1; is = rw (c .before .before .suffix .ensures) at (c .prefix .ensures) }
+module _ (c : tie.After-prefix Inv-loop μ-loop) where
+  abbrev old-start : tie.Start Inv-loop μ-loop
+  old-start = c .before .before .before .before .before .before .before .before .before
 
-new-cut : (c : tie.After-prefix2 Inv-loop μ-loop) → Cut (now (c .before .before .before .before .before .before .before .before .before .before .before .before .before .args .new)) (c .before .before .before .before .before .before .before .before .before .before .before .before .before .args .t5) (c .before .before .before .before .before .before .before .before .before .loop .section) (now (c .prefix2 .result))
-new-cut c =
-    let s = c .before .before .before .before .before .before .before .before .before .before .before .before .before in
-    record { accepted = s .pre .1 .1 .0; laid = s .pre .1 .1 .1; is = rw (c .before .before .suffix2 .ensures) at (c .prefix2 .ensures) }
+  old-cut : Cut (now (old-start .args .old)) (old-start .args .t4) (c .before .before .before .before .before .loop .section) (now (c .prefix .result))
+  old-cut =
+      let accepted = old-start .pre .1 .0 in
+      record { accepted = accepted .0; laid = accepted .1; is = rw (c .before .before .suffix .ensures) at (c .prefix .ensures) }
+
+module _ (c : tie.After-prefix2 Inv-loop μ-loop) where
+  abbrev new-start : tie.Start Inv-loop μ-loop
+  new-start = c .before .before .before .before .before .before .before .before .before .before .before .before .before
+
+  new-cut : Cut (now (new-start .args .new)) (new-start .args .t5) (c .before .before .before .before .before .before .before .before .before .loop .section) (now (c .prefix2 .result))
+  new-cut =
+      let accepted = new-start .pre .1 .1 in
+      record { accepted = accepted .0; laid = accepted .1; is = rw (c .before .before .suffix2 .ensures) at (c .prefix2 .ensures) }
 
 loop-holds : tie.Need-loop-holds Inv-loop μ-loop
 loop-holds c =

@@ -27,34 +27,32 @@ description-requires c κs = search needs
 description-requires-2 : tie.Need-description-requires-2
 description-requires-2 c κs = search needs
 
-change-of-requires : tie.Need-change-of-requires
-change-of-requires c κs = search needs
-
-put-unless-same-requires-2 : tie.Need-put-unless-same-requires-2
-put-unless-same-requires-2 c κs =
-    let s = c .before .before .before .before .before .before .before .before .before .before .before .before .before in
+put-changed-requires : tie.Need-put-changed-requires
+put-changed-requires c κs =
+    let named = c .before .before .before .before .before in
+    let s = named .before .before .before .before .before .before .before in
     let a = s .args in
-    let w = c .before .before .before .before .before .before .put-unless-same in
-    let next = rw (c .before .before .before .before .before .before .before .before .label .ensures, c .before .before .before .before .before .before .before .label2 .ensures) at (w .ensures .next) in
-    rw (c .before .change-of .ensures, c .before .before .before .description .ensures, c .before .before .description2 .ensures)
-    (omega (arith, next, w .kept .0, shared-length (a .section) (a .slot) (now (a .old)) (now (a .new)), s .pre))
+    let next = rw (named .before .before .label .ensures, named .before .label2 .ensures) at (named .put-unless-same .ensures .next) in
+    rw (c .before .before .description .ensures, c .before .description2 .ensures)
+    (omega (arith, next, named .put-unless-same .kept .0, shared-length (a .section) (a .slot) (now (a .old)) (now (a .new)), s .pre))
 
 same-length : tie.Need-same-length
 same-length c = search needs
 
 returns : tie.Need-returns
 returns c =
-    let s = c .before .before .before .before .before .before .before .before .before .before .before .before .before .before .before .before in
+    let described = c .before .before .before .before in
+    let named = described .before .before .before .before in
+    let s = named .before .before .before .before .before .before .before in
     let a = s .args in
     let h : a .at ≤ length (now (a .out)) = omega (arith, s .pre) in
-    let w = wrote-then (a .at) _ _ _ _ _ _ _ h (c .before .before .before .before .before .before .before .before .before .put-unless-same .ensures) (c .before .before .put-unless-same2 .ensures) in
+    let w = wrote-then (a .at) _ _ _ _ _ _ _ h (named .put-unless-same .ensures) (c .before .before .put-changed .ensures) in
     rw (shared-text (a .section) (a .slot) (now (a .old)) (now (a .new)))
     (rw (
-      c .before .before .before .before .before .before .before .before .before .before .before .label .ensures,
-      c .before .before .before .before .before .before .before .before .before .before .label2 .ensures,
-      c .before .before .before .before .change-of .ensures,
-      c .before .before .before .before .before .before .description .ensures,
-      c .before .before .before .before .before .description2 .ensures,
+      named .before .before .label .ensures,
+      named .before .label2 .ensures,
+      described .before .description .ensures,
+      described .description2 .ensures,
     ) at w)
 
 pub put-shared-spec : {M : Type 1} → statement M
@@ -66,7 +64,6 @@ put-shared-spec =
     put-unless-same-requires
     description-requires
     description-requires-2
-    change-of-requires
-    put-unless-same-requires-2
+    put-changed-requires
     same-length
     returns)

@@ -44,8 +44,10 @@ slice-aggregate-put-4 c = search needs
 
 put-requires-4 : tie.Need-put-requires-4
 put-requires-4 c κs =
+    let told = c .before .before .before .before .put-input in
+    let word = c .before .before .before .before .before .before .before .before .put3 in
     let p = rw (c .before .before .before .before .before .before .before .before .before .before .before .before .change .given .1, altr-length) at (c .before .before .before .before .before .before .before .before .before .before .before .before .before .before .before .pre) in
-    omega (arith, p, c .before .before .before .before .before .before .before .before .put3 .ensures .next, c .before .before .before .before .before .before .before .before .put3 .kept .0, c .before .before .before .before .put-input .ensures .next, c .before .before .before .before .put-input .kept .0)
+    omega (arith, p, word .ensures .next, word .kept .0, told .ensures .next, told .kept .0)
 
 same-length : tie.Need-same-length
 same-length c = search needs
@@ -64,8 +66,9 @@ same-length-3 c = search needs
 
 returns-3 : tie.Need-returns-3
 returns-3 c =
-    let a = c .before .before .before .before .before .before .before .before .before .before .before .before .before .before .before .before .before .before .args in
-    let h : a .at ≤ length (now (a .out)) = omega (arith, c .before .before .before .before .before .before .before .before .before .before .before .before .before .before .before .before .before .before .pre) in
+    let s = c .before .before .before .before .before .before .before .before .before .before .before .before .before .before .before .before .before .before in
+    let a = s .args in
+    let h : a .at ≤ length (now (a .out)) = omega (arith, s .pre) in
     let w = wrote-then (a .at) _ _ _ _ _ _ _ h (c .before .before .before .before .before .before .before .before .before .before .before .put3 .ensures) (c .before .before .before .before .before .before .before .put-input .ensures) in
     rw (c .before .before .before .before .before .before .before .before .before .before .before .before .before .before .before .change .given .1) (wrote-then (a .at) _ _ _ _ _ _ _ h w (c .before .before .put4 .ensures))
 

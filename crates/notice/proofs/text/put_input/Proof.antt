@@ -46,8 +46,9 @@ same-length-2 c = search needs
 
 returns-3 : tie.Need-returns-3
 returns-3 c =
-    let a = c .before .before .before .before .before .before .before .before .before .before .before .before .args in
-    let h : a .at ≤ length (now (a .out)) = omega (arith, c .before .before .before .before .before .before .before .before .before .before .before .before .pre) in
+    let s = c .before .before .before .before .before .before .before .before .before .before .before .before in
+    let a = s .args in
+    let h : a .at ≤ length (now (a .out)) = omega (arith, s .pre) in
     rw (c .before .before .before .before .before .before .before .before .before .input2 .given .1) (wrote-then (a .at) _ _ _ _ _ _ _ h (c .before .before .before .before .before .before .put-number2 .ensures) (c .before .before .put-number3 .ensures))
 
 same-length-3 : tie.Need-same-length-3

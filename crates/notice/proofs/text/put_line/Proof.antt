@@ -38,14 +38,16 @@ put-requires-2 : tie.Need-put-requires-2
 put-requires-2 c κs =
     let s = c .before .before .before .before .before .before .before .before .before .before .before in
     let w = c .before .before .before .before .put in
-    omega (arith, w .ensures .next, w .kept .0, ap length (name-of (c .before .before .before .before .before .before .before)), name-length (s .args .line .section), ap length (c .before .before .before .before .before .before .before .slot-digits .ensures), render-length (s .args .line), s .pre)
+    let made = c .before .before .before .before .before .before .before in
+    omega (arith, w .ensures .next, w .kept .0, ap length (name-of made), name-length (s .args .line .section), ap length (made .slot-digits .ensures), render-length (s .args .line), s .pre)
 
 put-finding-requires : tie.Need-put-finding-requires
 put-finding-requires c κs =
     let s = c .before .before .before .before .before .before .before .before .before .before .before .before .before .before .before in
     let w = c .before .before .before .before .before .before .before .before .put in
     let v = c .before .before .before .put2 in
-    omega (arith, w .ensures .next, w .kept .0, v .ensures .next, v .kept .0, ap length (name-of (c .before .before .before .before .before .before .before .before .before .before .before)), name-length (s .args .line .section), ap length (c .before .before .before .before .before .before .before .before .before .before .before .slot-digits .ensures), render-length (s .args .line), s .pre)
+    let made = c .before .before .before .before .before .before .before .before .before .before .before in
+    omega (arith, w .ensures .next, w .kept .0, v .ensures .next, v .kept .0, ap length (name-of made), name-length (s .args .line .section), ap length (made .slot-digits .ensures), render-length (s .args .line), s .pre)
 
 same-length : tie.Need-same-length
 same-length c = search needs
@@ -53,11 +55,13 @@ same-length c = search needs
 returns : tie.Need-returns
 unfolding render
 returns c =
-    let a = c .before .before .before .before .before .before .before .before .before .before .before .before .before .before .before .before .before .before .args in
-    let h : a .at ≤ length (now (a .out)) = omega (arith, c .before .before .before .before .before .before .before .before .before .before .before .before .before .before .before .before .before .before .pre) in
+    let made = c .before .before .before .before .before .before .before .before .before .before .before .before .before .before in
+    let s = made .before .before .before .before in
+    let a = s .args in
+    let h : a .at ≤ length (now (a .out)) = omega (arith, s .pre) in
     let w = wrote-then (a .at) _ _ _ _ _ _ _ h (c .before .before .before .before .before .before .before .before .before .before .before .put .ensures) (c .before .before .before .before .before .before .put2 .ensures) in
     let v = wrote-then (a .at) _ _ _ _ _ _ _ h w (c .before .before .put-finding .ensures) in
-    rw (name-of (c .before .before .before .before .before .before .before .before .before .before .before .before .before .before), c .before .before .before .before .before .before .before .before .before .before .before .before .before .before .slot-digits .ensures) at v
+    rw (name-of made, made .slot-digits .ensures) at v
 
 pub put-line-spec : {M : Type 1} → statement M
 put-line-spec =

@@ -33,20 +33,22 @@ part-put-end c = search needs
 
 put-requires-2 : tie.Need-put-requires-2
 put-requires-2 c κs =
-    let a = c .before .before .before .before .before .before .before .before .before .before .args in
+    let s = c .before .before .before .before .before .before .before .before .before .before in
+    let a = s .args in
     let w = c .before .before .before .before .before .put in
     let l = ap length (c .before .before .before .before .before .before .before .before .hex-digits .ensures) in
-    simp (length-take, length-drop) (omega (arith, w .ensures .next, w .kept .0, hex-length (a .digits) (a .x), c .before .before .before .before .before .before .before .before .before .before .pre))
+    simp (length-take, length-drop) (omega (arith, w .ensures .next, w .kept .0, hex-length (a .digits) (a .x), s .pre))
 
 same-length : tie.Need-same-length
 same-length c = search needs
 
 returns : tie.Need-returns
 returns c =
-    let a = c .before .before .before .before .before .before .before .before .before .before .before .before .before .args in
-    let h : a .at ≤ length (now (a .out)) = omega (arith, c .before .before .before .before .before .before .before .before .before .before .before .before .before .pre .1) in
+    let s = c .before .before .before .before .before .before .before .before .before .before .before .before .before in
+    let a = s .args in
+    let h : a .at ≤ length (now (a .out)) = omega (arith, s .pre .1) in
     let w = wrote-then (a .at) _ _ _ _ _ _ _ h (c .before .before .before .before .before .before .before .before .put .ensures) (c .before .before .put2 .ensures) in
-    rw (c .before .before .before .before .before .before .before .before .before .before .before .hex-digits .ensures, hex-last (a .digits) (a .x) (c .before .before .before .before .before .before .before .before .before .before .before .before .before .pre .0)) at w
+    rw (c .before .before .before .before .before .before .before .before .before .before .before .hex-digits .ensures, hex-last (a .digits) (a .x) (s .pre .0)) at w
 
 pub put-number-spec : {M : Type 1} → statement M
 put-number-spec =

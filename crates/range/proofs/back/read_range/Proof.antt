@@ -1,5 +1,5 @@
 -- `range::back::read_range` meets its contract. Assumes nothing.
-use mathlib.Core.Path.{_≡_, refl, sym, ap, ap₂, subst, _∙_}
+use mathlib.Core.Path.{_≡_, refl, sym, ap, ap₂, _∙_}
 use mathlib.Core.Bool.{Bool, true, false, cond, _&&_}
 use mathlib.Core.List.{List}
 use Prim.Native.Nat.{ℕ, _+_, _-_, _≤_, _<_}
@@ -9,20 +9,15 @@ use borrow.Author.Tests.{eq-eqb, ne-eqb, le-leb, lt-leb}
 use lib.Dec.{leb}
 use lib.ListN.{length, take, drop, length-drop}
 use lib.Seq.{length-take-le, take-all}
-use Rattle.buffer.specs.Same.{same}
+use Rattle.peek.specs.Same.{same}
 use Rattle.range.specs.declared.Range.{Range}
 use Rattle.range.specs.declared.ReadRange.{ReadRange}
 use Rattle.range.specs.declared.ReadRange.the-variants as ReadRange
 use Rattle.range.specs.Words.{complement, wordsOf}
-use Rattle.range.specs.Back.{chainBound, decoded, readAs, readRange, ReadSays}
-use Rattle.range.proofs.Decode.{range-path}
-use Rattle.range.proofs.Decode.{read-says}
+use Rattle.range.specs.Back.{chainBound, decoded, readAs, readRange}
+use Rattle.range.proofs.Decode.{range-path, read-meets}
 use Rattle.range.proofs.back.read_range.Statement.{statement}
 use Rattle.range.proofs.back.read_range.Tie as tie
-
--- what is right of the answer is right of what equals it
-meets : (words : List ℕ) (r : ReadRange) → r ≡ readRange words → (r ≡ readRange words) × ReadSays words r
-meets words r e = (e, subst (ReadSays words) (sym e) (read-says words))
 
 -- 32 words that decode to r are judged by two tests
 module _ (words : List ℕ) (r : Range) (len : length words ≡ 32) (found : decoded words ≡ r) where
@@ -49,7 +44,7 @@ other words n = rw (ne-eqb (length words) 32 n)
 returns : tie.Need-returns
 returns c =
     let words = c .before .before .args .words .now in
-    meets words ReadRange.Refused (other words (c .if1 .taken))
+    read-meets words ReadRange.Refused (other words (c .if1 .taken))
 
 first-half : (words : List ℕ) → length words ≡ 32 → length (take 16 words) ≡ 16
 first-half words h = length-take-le 16 words (omega arith)
@@ -116,17 +111,17 @@ module _ (c : tie.After-chain-bound2) where
 returns-2 : tie.Need-returns-2
 returns-2 c =
     let d = c .before .before .before in
-    meets (lent d) _ (in-order (lent d) (read d) (count d) (found d) _ true (c .before .writes .ensures) (c .if3 .taken) (omega arith))
+    read-meets (lent d) _ (in-order (lent d) (read d) (count d) (found d) _ true (c .before .writes .ensures) (c .if3 .taken) (omega arith))
 
 returns-3 : tie.Need-returns-3
 returns-3 c =
     let d = c .before .before .before in
-    meets (lent d) _ (in-order (lent d) (read d) (count d) (found d) _ false (c .before .writes .ensures) (c .if3 .left) (omega arith))
+    read-meets (lent d) _ (in-order (lent d) (read d) (count d) (found d) _ false (c .before .writes .ensures) (c .if3 .left) (omega arith))
 
 returns-4 : tie.Need-returns-4
 returns-4 c =
     let d = c .before in
-    meets (lent d) _ (out-of-order (lent d) (read d) (count d) (found d) (omega arith))
+    read-meets (lent d) _ (out-of-order (lent d) (read d) (count d) (found d) (omega arith))
 
 pub read-range-spec : {M : Type 1} → statement M
 read-range-spec =

@@ -19,27 +19,30 @@ returns c =
 
 returns-2 : tie.Need-returns-2
 returns-2 c =
-    let a = c .before .before .before .before .before .args in
+    let at-args = c .before .before .before .before .before in
+    let a = at-args .args in
     let s : List ℕ = drop (a .at) (now (a .stream)) in
     let e = sym (c .before .before .before .check-command .ensures) ∙ c .before .enum-told .given .1 in
-    let is : a .section ≡ sectionAt (number s) = c .before .before .before .before .before .pre .1 ∙ ap sectionAt (c .before .before .before .before .before .pre .0) in
+    let is : a .section ≡ sectionAt (number s) = at-args .pre .1 ∙ ap sectionAt (at-args .pre .0) in
     sym (first-unknown (a .low) (a .at) s e (rw (← is) (c .if1 .taken)))
 
 returns-3 : tie.Need-returns-3
 returns-3 c =
-    let a = c .before .before .before .before .before .before .args in
+    let at-args = c .before .before .before .before .before .before in
+    let a = at-args .args in
     let s : List ℕ = drop (a .at) (now (a .stream)) in
     let e = sym (c .before .before .before .before .check-command .ensures) ∙ c .before .before .enum-told .given .1 in
-    let is : a .section ≡ sectionAt (number s) = c .before .before .before .before .before .before .pre .1 ∙ ap sectionAt (c .before .before .before .before .before .before .pre .0) in
-    sym (first-below (a .low) (a .at) s e (rw (← is) (c .before .if1 .left)) (rw (← c .before .before .before .before .before .before .pre .0) (c .if2 .taken)))
+    let is : a .section ≡ sectionAt (number s) = at-args .pre .1 ∙ ap sectionAt (at-args .pre .0) in
+    sym (first-below (a .low) (a .at) s e (rw (← is) (c .before .if1 .left)) (rw (← at-args .pre .0) (c .if2 .taken)))
 
 returns-4 : tie.Need-returns-4
 returns-4 c =
-    let a = c .before .before .before .before .before .before .args in
+    let at-args = c .before .before .before .before .before .before in
+    let a = at-args .args in
     let s : List ℕ = drop (a .at) (now (a .stream)) in
     let e = sym (c .before .before .before .before .check-command .ensures) ∙ c .before .before .enum-told .given .1 in
-    let is : a .section ≡ sectionAt (number s) = c .before .before .before .before .before .before .pre .1 ∙ ap sectionAt (c .before .before .before .before .before .before .pre .0) in
-    sym (first-known (a .low) (a .at) s e (rw (← is) (c .before .if1 .left)) (rw (← c .before .before .before .before .before .before .pre .0) (c .if2 .left)))
+    let is : a .section ≡ sectionAt (number s) = at-args .pre .1 ∙ ap sectionAt (at-args .pre .0) in
+    sym (first-known (a .low) (a .at) s e (rw (← is) (c .before .if1 .left)) (rw (← at-args .pre .0) (c .if2 .left)))
 
 check-command-requires : tie.Need-check-command-requires
 check-command-requires c κs = search needs

@@ -53,13 +53,14 @@ part-take-chain-end c = omega (arith, left-less (c .before .loop .left) (c .befo
 
 returns : tie.Need-returns Inv-loop μ-loop
 returns c =
+    let take-chain = c .before .before .before .before .before .take-chain in
     let a = c .before .before .before .before .before .before .before .before .before .before .before .before .before .args in
     let s : List ℕ = now (a .stream) in
     let l = c .before .before .before .before .before .before .before .before .loop in
     let each : ℕ = c .before .before .before .before .before .before .before .before .before .before .chain-length .result in
     let n : l .to + each - l .to ≡ each = omega arith in
     let fits : l .to + each ≤ length (l .words) = omega (arith, left-less (l .left) each (omega arith)) in
-    let answer = chain-answer (l .to) each _ (l .words) _ s (l .due) (l .from) _ fits n (c .before .before .before .before .before .take-chain .kept .1 .1 .1 .0) (c .before .before .before .before .before .take-chain .ensures) in
+    let answer = chain-answer (l .to) each _ (l .words) _ s (l .due) (l .from) _ fits n (take-chain .kept .1 .1 .1 .0) (take-chain .ensures) in
     taken-refused _ _ _ _ _
     (andThen-stop _ _ _ _ _ (sym (chains-turn each (l .due) (l .from) s (l .left) (c .before .before .before .before .before .before .before .loop-test .taken)) ∙ l .inv .3) (sym answer ∙ c .before .taken .given .1))
 

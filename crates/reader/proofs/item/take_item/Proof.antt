@@ -20,10 +20,11 @@ returns c =
 
 take-chains-requires : tie.Need-take-chains-requires
 take-chains-requires c κs =
-    let a = c .before .before .before .before .before .before .args in
+    let at-args = c .before .before .before .before .before .before in
+    let a = at-args .args in
     let s : List ℕ = drop (a .at) (now (a .stream)) in
     let known = first-accepted (a .low) (a .at) s (sym (c .before .before .before .check-first .ensures) ∙ c .before .enum-told .given .1) .0 in
-    (omega (arith, c .before .before .before .before .before .before .pre .0, known-small (number s) known), c .before .before .before .before .before .before .pre .2)
+    (omega (arith, at-args .pre .0, known-small (number s) known), at-args .pre .2)
 
 returns-2 : tie.Need-returns-2
 returns-2 c =

@@ -17,8 +17,9 @@ use Rattle.reader.proofs.keep.keep_record.Tie as tie
 -- there is room for one record more
 fits : (c : tie.After-section-size) → c .section-size .result + recordSize (c .before .before .before .before .args .section) ≤ partSize
 fits c =
-    let a = c .before .before .before .before .args in
-    record-fits (a .section) (countIn (a .section) (now (a .room))) _ (c .before .before .before .before .pre .0) (c .before .before .before .before .pre .2) (c .section-size .ensures)
+    let at-args = c .before .before .before .before in
+    let a = at-args .args in
+    record-fits (a .section) (countIn (a .section) (now (a .room))) _ (at-args .pre .0) (at-args .pre .2) (c .section-size .ensures)
 
 add-to : tie.Need-add-to
 add-to c = omega (arith, fits c)
@@ -37,22 +38,30 @@ part-put-record-end-2 c = omega (arith, total-of (c .before .before .before .bef
 
 put-record-requires : tie.Need-put-record-requires
 put-record-requires c κs =
-    let a = c .before .before .before .before .before .before .before .before .args in
-    (c .before .before .before .before .before .before .before .before .pre .0, omega (arith, rest-length (partSize * a .section + c .before .before .before .before .section-size .result) (now (a .room)), fits (c .before .before .before .before)))
+    let at-section-size = c .before .before .before .before in
+    let at-args = at-section-size .before .before .before .before in
+    let a = at-args .args in
+    (at-args .pre .0, omega (arith, rest-length (partSize * a .section + at-section-size .section-size .result) (now (a .room)), fits at-section-size))
 
 add-room : tie.Need-add-room
-add-room c = omega (arith, c .before .before .before .before .before .before .before .before .before .before .before .pre .2, most-byte (c .before .before .before .before .before .before .before .before .before .before .before .args .section))
+add-room c =
+    let at-pre = c .before .before .before .before .before .before .before .before .before .before .before in
+    omega (arith, at-pre .pre .2, most-byte (at-pre .args .section))
 
 returns : tie.Need-returns
 returns c =
-    let a = c .before .before .before .before .before .before .before .before .before .before .before .args in
+    let chain-length = c .before .before .before .before .before .chain-length in
+    let chain-count = c .before .before .before .before .before .before .chain-count in
+    let at-section-size = c .before .before .before .before .before .before .before in
+    let at-args = at-section-size .before .before .before .before in
+    let a = at-args .args in
     let k = a .section in
-    let n : ℕ = c .before .before .before .before .before .before .chain-count .result * c .before .before .before .before .before .chain-length .result in
+    let n : ℕ = chain-count .result * chain-length .result in
     let z : n - 0 ≡ n = omega arith in
-    let t : n - 0 ≡ chainCount k * chainLength k = z ∙ ap₂ _*_ (c .before .before .before .before .before .before .chain-count .ensures) (c .before .before .before .before .before .chain-length .ensures) in
+    let t : n - 0 ≡ chainCount k * chainLength k = z ∙ ap₂ _*_ (chain-count .ensures) (chain-length .ensures) in
     let put = rw t at (c .before .before .put-record .ensures) in
-    let short = description-short k (c .before .before .before .before .before .before .before .before .before .before .before .pre .0) (take (chainCount k * chainLength k) (now (a .words))) in
-    (put .0, kept-made k (a .slot) (c .before .before .before .before .before .before .before .section-size .result) _ (now (a .room)) _ (c .before .before .before .before .before .before .before .section-size .ensures) (omega (arith, short, fits (c .before .before .before .before .before .before .before))) (put .1))
+    let short = description-short k (at-args .pre .0) (take (chainCount k * chainLength k) (now (a .words))) in
+    (put .0, kept-made k (a .slot) (at-section-size .section-size .result) _ (now (a .room)) _ (at-section-size .section-size .ensures) (omega (arith, short, fits at-section-size)) (put .1))
 
 mul-start : tie.Need-mul-start
 mul-start c = search needs

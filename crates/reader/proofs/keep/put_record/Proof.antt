@@ -10,7 +10,6 @@ use Rattle.buffer.specs.Room.{write}
 use Rattle.buffer.proofs.Writing.{Pending, pending-start, pending-store, pending-step, pending-end}
 use Rattle.kinds.specs.Table.{descriptionRead}
 use Rattle.reader.specs.Back.{labelFor}
-use Rattle.reader.proofs.Judged.{outcome-size}
 use Rattle.reader.proofs.Keeping.{description-short}
 use borrow.Author.Needs.{needs}
 use Rattle.reader.proofs.keep.put_record.Statement.{statement}
@@ -59,7 +58,7 @@ same-length : tie.Need-same-length
 same-length c = done c .size
 
 returns : tie.Need-returns
-returns c = (c .size-of .ensures ∙ outcome-size _ _ _ _ (c .before .before .before .put-back .ensures), pending-end _ _ _ _ (done c))
+returns c = (c .size-of .ensures ∙ c .before .before .before .put-back .ensures .place, pending-end _ _ _ _ (done c))
 
 slice-write-out : tie.Need-slice-write-out
 slice-write-out c = search needs

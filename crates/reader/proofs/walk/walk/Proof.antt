@@ -30,10 +30,11 @@ take-item-requires c κs = (c .before .before .number-at .ensures, c .before .pl
 
 returns : tie.Need-returns Inv-loop μ-loop
 returns c =
+    let place-at = c .before .before .before .before .before .before .place-at in
     let l = c .before .before .before .before .before .before .before .before .before .loop in
     walked-refused _ _ _ _
-    (walking-stops (now (c .before .before .before .before .before .before .before .before .before .before .before .before .args .stream)) (l .low) (l .at) (l .room) (l .inv .1) (c .before .before .before .before .before .before .before .before .loop-test .taken) (c .before .before .before .before .before .before .place-at .result .section) _
-    (c .before .before .before .before .before .before .before .number-at .ensures) (c .before .before .before .before .before .before .place-at .ensures .0) _ _ (sym (c .before .before .before .before .take-item .ensures .answer) ∙ c .before .taken .given .1))
+    (walking-stops (now (c .before .before .before .before .before .before .before .before .before .before .before .before .args .stream)) (l .low) (l .at) (l .room) (l .inv .1) (c .before .before .before .before .before .before .before .before .loop-test .taken) (place-at .result .section) _
+    (c .before .before .before .before .before .before .before .number-at .ensures) (place-at .ensures .0) _ _ (sym (c .before .before .before .before .take-item .ensures .answer) ∙ c .before .taken .given .1))
 
 -- an item whose commands have no fault
 module _ (c : tie.After-enum-told Inv-loop μ-loop) where
@@ -56,7 +57,9 @@ module _ (c : tie.After-enum-told Inv-loop μ-loop) where
   fine = sym (c .before .before .before .take-item .ensures .answer) ∙ c .enum-told .given .1
 
   known : k < sections
-  known = walking-known s low at (c .before .before .before .before .before .before .before .before .loop .room) (c .before .before .before .before .before .before .before .before .loop .inv .1) (c .before .before .before .before .before .before .before .loop-test .taken) k a (c .before .before .before .before .before .before .number-at .ensures) (c .before .before .before .before .before .place-at .ensures .0) fine
+  known =
+      let loop = c .before .before .before .before .before .before .before .before .loop in
+      walking-known s low at (loop .room) (loop .inv .1) (c .before .before .before .before .before .before .before .loop-test .taken) k a (c .before .before .before .before .before .before .number-at .ensures) (c .before .before .before .before .before .place-at .ensures .0) fine
 
 keep-record-requires : tie.Need-keep-record-requires Inv-loop μ-loop
 keep-record-requires c κs =
@@ -69,8 +72,13 @@ keep-record-requires c κs =
 
 -- its record was kept
 module _ (c : tie.After-slice-known2 Inv-loop μ-loop) where
-  read : c .before .before .keep-record .result ≡ length (descriptionIn (drop (c .before .before .before .before .before .before .before .before .before .before .before .before .before .loop .at) (now (c .before .before .before .before .before .before .before .before .before .before .before .before .before .before .before .before .args .stream))))
-  read = c .before .before .keep-record .ensures .0 ∙ ap length (read-is _ _ (c .before .before .before .before .before .before .before .before .before .before .before .before .before .loop .at) (now (c .before .before .before .before .before .before .before .before .before .before .before .before .before .before .before .before .args .stream)) _ (c .before .before .before .before .before .before .before .before .before .before .before .number-at .ensures) (c .before .before .before .before .before .before .before .before .before .before .place-at .ensures .0) (c .before .before .before .before .before .before .before .before .take-item .ensures .held (fine (c .before .before .before .before .before))))
+  abbrev told : tie.After-enum-told Inv-loop μ-loop
+  told = c .before .before .before .before .before
+
+  read : c .before .before .keep-record .result ≡ length (descriptionIn (drop (at told) (s told)))
+  read =
+      c .before .before .keep-record .ensures .0
+      ∙ ap length (read-is _ _ (at told) (s told) _ (told .before .before .before .before .before .before .number-at .ensures) (told .before .before .before .before .before .place-at .ensures .0) (told .before .before .before .take-item .ensures .held (fine told)))
 
 returns-2 : tie.Need-returns-2 Inv-loop μ-loop
 returns-2 c =
@@ -85,14 +93,16 @@ add-low c =
     omega (arith, known-small (c .before .before .before .before .before .before .before .before .before .before .before .before .number-at .result) z)
 
 -- the item lies within the stream
-within : (c : tie.After-item-size Inv-loop μ-loop) → c .before .before .before .before .before .before .before .before .before .before .before .before .before .before .before .loop .at + c .item-size .result ≤ length (now (c .before .before .before .before .before .before .before .before .before .before .before .before .before .before .before .before .before .before .args .stream))
+within : (c : tie.After-item-size Inv-loop μ-loop) → let e = c .before .before .before .before .before .before .before in
+    at e + c .item-size .result ≤ length (s e)
 within c =
-    let l = c .before .before .before .before .before .before .before .before .before .before .before .before .before .before .before .loop in
+    let e = c .before .before .before .before .before .before .before in
+    let l = e .before .before .before .before .before .before .before .before .loop in
     omega (
       arith,
       c .item-size .ensures,
-      walking-within (now (c .before .before .before .before .before .before .before .before .before .before .before .before .before .before .before .before .before .before .args .stream)) (l .low) (l .at) (l .room) (l .inv .1) (c .before .before .before .before .before .before .before .before .before .before .before .before .before .before .loop-test .taken) (c .before .before .before .before .before .before .before .before .before .before .before .before .place-at .result .section) (c .before .before .before .before .before .before .before .before .before .before .before .before .before .number-at .result)
-          (c .before .before .before .before .before .before .before .before .before .before .before .before .before .number-at .ensures) (c .before .before .before .before .before .before .before .before .before .before .before .before .place-at .ensures .0) (fine (c .before .before .before .before .before .before .before)) (λ e. c .before .if1 .left (read (c .before .before) ∙ e)),
+      walking-within (s e) (low e) (at e) (l .room) (l .inv .1) (e .before .before .before .before .before .before .before .loop-test .taken) (k e) (a e) (e .before .before .before .before .before .before .number-at .ensures)
+          (e .before .before .before .before .before .place-at .ensures .0) (fine e) (λ z. c .before .if1 .left (read (c .before .before) ∙ z)),
     )
 
 add-at : tie.Need-add-at Inv-loop μ-loop
@@ -103,13 +113,17 @@ loop-less c = omega (arith, within c, c .item-size .ensures, item-positive (c .b
 
 loop-again : tie.Need-loop-again Inv-loop μ-loop
 loop-again c =
-    let l = c .before .before .before .before .before .before .before .before .before .before .before .before .before .before .before .loop in
-    let s : List ℕ = now (c .before .before .before .before .before .before .before .before .before .before .before .before .before .before .before .before .before .before .args .stream) in
-    let d = read-is _ _ (l .at) s _ (c .before .before .before .before .before .before .before .before .before .before .before .before .before .number-at .ensures) (c .before .before .before .before .before .before .before .before .before .before .before .before .place-at .ensures .0) (c .before .before .before .before .before .before .before .before .before .before .take-item .ensures .held (fine (c .before .before .before .before .before .before .before))) in (
-      c .before .before .before .before .before .before .before .before .before .before .take-item .kept .1 .1 .1 .1 .1 .0 ∙ l .inv .0,
-      walking-next s (l .low) (l .at) (l .room) (l .inv .1) (c .before .before .before .before .before .before .before .before .before .before .before .before .before .before .loop-test .taken) (c .before .before .before .before .before .before .before .before .before .before .before .before .place-at .result .section) (c .before .before .before .before .before .before .before .before .before .before .before .before .before .number-at .result)
-          (c .before .before .before .before .before .before .before .before .before .before .before .before .before .number-at .ensures) (c .before .before .before .before .before .before .before .before .before .before .before .before .place-at .ensures .0) (fine (c .before .before .before .before .before .before .before)) (λ e. c .before .if1 .left (read (c .before .before) ∙ e)) (c .before .before .before .before .before .before .before .before .before .before .before .before .place-at .result .slot) _ _ _
-          (c .before .before .before .before .before .before .before .before .before .before .before .before .place-at .ensures .1) (c .item-size .ensures) d (c .before .before .before .before .keep-record .ensures .1),
+    let e = c .before .before .before .before .before .before .before in
+    let take-item = e .before .before .before .take-item in
+    let place-at = e .before .before .before .before .before .place-at in
+    let number-at = e .before .before .before .before .before .before .number-at in
+    let l = e .before .before .before .before .before .before .before .before .loop in
+    let s : List ℕ = now (e .before .before .before .before .before .before .before .before .before .before .before .args .stream) in
+    let d = read-is _ _ (l .at) s _ (number-at .ensures) (place-at .ensures .0) (take-item .ensures .held (fine e)) in (
+      take-item .kept .1 .1 .1 .1 .1 .0 ∙ l .inv .0,
+      walking-next s (l .low) (l .at) (l .room) (l .inv .1) (e .before .before .before .before .before .before .before .loop-test .taken) (place-at .result .section) (number-at .result)
+          (number-at .ensures) (place-at .ensures .0) (fine e) (λ e. c .before .if1 .left (read (c .before .before) ∙ e)) (place-at .result .slot) _ _ _
+          (place-at .ensures .1) (c .item-size .ensures) d (c .before .before .before .before .keep-record .ensures .1),
     )
 
 returns-3 : tie.Need-returns-3 Inv-loop μ-loop

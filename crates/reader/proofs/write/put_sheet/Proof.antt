@@ -37,10 +37,11 @@ add-at c =
 
 loop-again : tie.Need-loop-again Inv-loop μ-loop
 loop-again c =
+    let part = c .before .before .before .before .part in
     let room : List ℕ = now (c .before .before .before .before .before .before .before .before .before .before .before .args .room) in
     let l = c .before .before .before .before .before .before .loop in
     pending-step _ _ (l .at) _ _ (partOf (l .section) room) _ (l .out) _ _ (parts-from room (l .section) (c .before .before .before .before .before .loop-test .taken))
-    (ap (λ (bs : List ℕ). l .at + length bs) (c .before .before .before .before .part .ensures .0)) (l .inv) (delivers (c .before .before .before .before .part .ensures .0) (c .before .before .put-bytes .ensures))
+    (ap (λ (bs : List ℕ). l .at + length bs) (part .ensures .0)) (l .inv) (delivers (part .ensures .0) (c .before .before .put-bytes .ensures))
 
 same-length : tie.Need-same-length Inv-loop μ-loop
 same-length c = c .before .loop .inv .size

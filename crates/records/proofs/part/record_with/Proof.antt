@@ -23,7 +23,8 @@ slice-aggregate-result c = search needs
 
 -- what stands at the cursor
 next : (c : tie.After-prefix)
-    → now (c .prefix .result) ≡ take (recordSize (c .before .before .before .before .args .number)) (drop (c .before .before .before .before .args .at) (now (c .before .before .before .before .args .part)))
+    → let args = c .before .before .before .before .args in
+    now (c .prefix .result) ≡ take (recordSize (args .number)) (drop (args .at) (now (args .part)))
 next c = c .prefix .ensures ∙ ap₂ take (c .before .before .record-size .ensures) (c .before .suffix .ensures)
 
 returns : tie.Need-returns

@@ -9,6 +9,7 @@ use denote.Ref.{now}
 use Rattle.buffer.specs.declared.Verdict.the-variants.{Accepted}
 use Rattle.records.specs.Sections.{sections, sectionSize}
 use Rattle.sheet.specs.Reading.{sectionVerdict, sectionsVerdict, verdict}
+use Rattle.sheet.proofs.Numbered.{check-meets}
 use Rattle.sheet.proofs.Reading.{section-fits, sections-next, sections-refuse, sections-over, sections-done}
 use Rattle.sheet.proofs.judge.check.Statement.{statement}
 use Rattle.sheet.proofs.judge.check.Tie as tie
@@ -35,7 +36,7 @@ returns c =
     let s = now (c .before .before .before .before .before .before .before .args .sheet) in
     let g = c .before .number .given in
     let refused = sym (c .before .before .before .check-section .ensures) ∙ g .1 in
-    sym (l .inv .1 ∙ sections-refuse (sections - l .section) (l .section) (l .at) s (g .0 .0) (g .0 .1 .0) (omega arith) refused)
+    check-meets s _ (sym (l .inv .1 ∙ sections-refuse (sections - l .section) (l .section) (l .at) s (g .0 .0) (g .0 .1 .0) (omega arith) refused))
 
 enum-told : tie.Need-enum-told Inv-loop μ-loop
 enum-told c = search needs
@@ -48,13 +49,15 @@ section-size-requires c κs = search needs
 
 -- the section was accepted, and how many bytes it has
 accepted : (c : tie.After-enum-told Inv-loop μ-loop)
-    → sectionVerdict (c .before .before .before .before .loop .section) (c .before .before .before .before .loop .at) (drop (c .before .before .before .before .loop .at) (now (c .before .before .before .before .before .before .args .sheet)))
+    → let loop = c .before .before .before .before .loop in
+    sectionVerdict (loop .section) (loop .at) (drop (loop .at) (now (c .before .before .before .before .before .before .args .sheet)))
     ≡ Accepted
 accepted c = sym (c .before .before .check-section .ensures) ∙ c .enum-told .given .1
 
 size : (c : tie.After-section-size Inv-loop μ-loop)
-    → c .section-size .result
-    ≡ sectionSize (c .before .before .before .before .before .before .loop .section) (getD (now (c .before .before .before .before .before .before .before .before .args .sheet)) (c .before .before .before .before .before .before .loop .at) 0)
+    → let loop = c .before .before .before .before .before .before .loop in
+    c .section-size .result
+    ≡ sectionSize (loop .section) (getD (now (c .before .before .before .before .before .before .before .before .args .sheet)) (loop .at) 0)
 size c = c .section-size .ensures ∙ ap (sectionSize (c .before .before .before .before .before .before .loop .section)) (c .before .byte-at .ensures)
 
 add-at : tie.Need-add-at Inv-loop μ-loop
@@ -87,12 +90,14 @@ last c none =
 returns-2 : tie.Need-returns-2 Inv-loop μ-loop
 returns-2 c =
     let l = c .before .before .loop in
-    sym (last (c .before .before) (omega arith) ∙ sections-over (l .section) (l .at) (now (c .before .before .before .before .args .sheet)) (c .if1 .taken))
+    let s = now (c .before .before .before .before .args .sheet) in
+    check-meets s _ (sym (last (c .before .before) (omega arith) ∙ sections-over (l .section) (l .at) s (c .if1 .taken)))
 
 returns-3 : tie.Need-returns-3 Inv-loop μ-loop
 returns-3 c =
     let l = c .before .before .loop in
-    sym (last (c .before .before) (omega arith) ∙ sections-done (l .section) (l .at) (now (c .before .before .before .before .args .sheet)) (c .if1 .left))
+    let s = now (c .before .before .before .before .args .sheet) in
+    check-meets s _ (sym (last (c .before .before) (omega arith) ∙ sections-done (l .section) (l .at) s (c .if1 .left)))
 
 pub check-spec : {M : Type 1} → statement M
 check-spec =

@@ -38,12 +38,15 @@ record-fault-requires c κs = search needs
 
 -- the next record, and its fault
 next : (c : tie.After-prefix Inv-loop μ-loop)
-    → now (c .prefix .result) ≡ nextRecord (c .before .before .before .before .before .before .args .section) (drop (c .before .before .before .loop .at) (now (c .before .before .before .before .before .before .args .sheet)))
+    → let args = c .before .before .before .before .before .before .args in
+    now (c .prefix .result) ≡ nextRecord (args .section) (drop (c .before .before .before .loop .at) (now (args .sheet)))
 next c = c .prefix .ensures ∙ ap₂ take (c .before .before .before .loop .inv .0) (c .before .suffix .ensures)
 
 fault : (c : tie.After-record-fault Inv-loop μ-loop)
-    → c .record-fault .result
-    ≡ recordFault (c .before .before .before .before .before .before .before .args .section) (c .before .before .before .before .loop .floor) (nextRecord (c .before .before .before .before .before .before .before .args .section) (drop (c .before .before .before .before .loop .at) (now (c .before .before .before .before .before .before .before .args .sheet))))
+    → let loop = c .before .before .before .before .loop in
+    let args = c .before .before .before .before .before .before .before .args in
+    c .record-fault .result
+    ≡ recordFault (args .section) (loop .floor) (nextRecord (args .section) (drop (loop .at) (now (args .sheet))))
 fault c =
     let a = c .before .before .before .before .before .before .before .args in
     c .record-fault .ensures ∙ ap (recordFault (a .section) (c .before .before .before .before .loop .floor)) (next (c .before))

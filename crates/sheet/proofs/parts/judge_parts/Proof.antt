@@ -15,10 +15,10 @@ enum-told : tie.Need-enum-told
 enum-told c = search needs
 
 lay-out-requires : tie.Need-lay-out-requires
-lay-out-requires c κs = sym (c .before .before .check .ensures) ∙ c .enum-told .given .1
+lay-out-requires c κs = sym (c .before .before .check .ensures .0) ∙ c .enum-told .given .1
 
 returns : tie.Need-returns
-returns c = judged-refused _ _ _ (sym (c .before .before .before .check .ensures) ∙ c .before .refusal .given .1)
+returns c = judged-refused _ _ _ (sym (c .before .before .before .check .ensures .0) ∙ c .before .refusal .given .1)
 
 returns-2 : tie.Need-returns-2
 returns-2 c = c .lay-out .ensures

@@ -49,7 +49,8 @@ section-size-requires c κs = search needs
 
 -- how many bytes the section has, its count included
 size : (c : tie.After-section-size)
-    → c .section-size .result ≡ sectionSize (c .before .before .before .before .before .before .before .before .args .number) (countOf (now (c .before .before .before .before .before .before .before .before .args .sheet)) (c .before .before .before .before .before .before .before .before .args .number))
+    → let args = c .before .before .before .before .before .before .before .before .args in
+    c .section-size .result ≡ sectionSize (args .number) (countOf (now (args .sheet)) (args .number))
 unfolding countOf
 size c =
     let a = c .before .before .before .before .before .before .before .before .args in
@@ -58,7 +59,7 @@ size c =
 
 -- the sheet was accepted
 checked : (c : tie.After-enum-told2) → verdict (now (c .before .before .before .before .before .args .sheet)) ≡ Accepted
-checked c = sym (c .before .before .check .ensures) ∙ c .enum-told2 .given .1
+checked c = sym (c .before .before .check .ensures .0) ∙ c .enum-told2 .given .1
 
 -- the part ends within the sheet
 ends : (c : tie.After-section-size)
@@ -88,7 +89,7 @@ returns-2 c =
     let a = c .before .before .before .before .before .before .args in
     let s = now (a .sheet) in
     let g = c .before .enum-told .given in
-    let refused = sym (c .before .before .before .check .ensures) ∙ g .1 in
+    let refused = sym (c .before .before .before .check .ensures .0) ∙ g .1 in
     record {
       holds = sym (section-refused s (a .number) (g .0 .0) (g .0 .1 .0) refused);
       same-block = refl;

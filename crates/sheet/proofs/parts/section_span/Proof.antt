@@ -21,7 +21,7 @@ enum-known-verdict c = search needs
 returns : tie.Need-returns
 returns c =
     let a = c .before .before .before .before .before .args in
-    sym (span-refused (now (a .sheet)) (a .number) _ _ (sym (c .before .before .before .check .ensures) ∙ c .before .verdict .given .1))
+    sym (span-refused (now (a .sheet)) (a .number) _ _ (sym (c .before .before .before .check .ensures .0) ∙ c .before .verdict .given .1))
 
 enum-told : tie.Need-enum-told
 enum-told c = search needs
@@ -30,7 +30,7 @@ section-unchecked-requires : tie.Need-section-unchecked-requires
 section-unchecked-requires c κs = search needs
 
 accepted : (c : tie.After-section-unchecked) → verdict (now (c .before .before .before .before .before .args .sheet)) ≡ Accepted
-accepted c = sym (c .before .before .before .check .ensures) ∙ c .before .enum-told .given .1
+accepted c = sym (c .before .before .before .check .ensures .0) ∙ c .before .enum-told .given .1
 
 returns-2 : tie.Need-returns-2
 returns-2 c =
@@ -38,7 +38,8 @@ returns-2 c =
     let none : length (sectionUnchecked (now (a .sheet)) (a .number)) ≡ 0 = sym (ap length (c .before .section-unchecked .ensures)) ∙ c .if1 .taken in
     sym (span-empty (now (a .sheet)) (a .number) (accepted (c .before)) none)
 
-some : (c : tie.Else1) → 0 < length (sectionUnchecked (now (c .before .before .before .before .before .before .args .sheet)) (c .before .before .before .before .before .before .args .number))
+some : (c : tie.Else1) → let args = c .before .before .before .before .before .before .args in
+    0 < length (sectionUnchecked (now (args .sheet)) (args .number))
 some c = omega (arith, ap length (c .before .section-unchecked .ensures))
 
 section-offset-requires : tie.Need-section-offset-requires

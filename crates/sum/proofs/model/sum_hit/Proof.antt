@@ -2,6 +2,7 @@
 -- Assumes nothing.
 use borrow.Author.Needs.{needs}
 use Rattle.sum.specs.Model.{sumHit}
+use Rattle.sum.proofs.Sources.{last-as-first}
 use Rattle.sum.proofs.model.sum_hit.Statement.{statement}
 use Rattle.sum.proofs.model.sum_hit.Tie as tie
 
@@ -13,6 +14,12 @@ shared-slice-read-mid-inputs-2 c = search needs
 
 mid-inputs-requires : tie.Need-mid-inputs-requires
 mid-inputs-requires c κs = search needs
+
+mul-down : tie.Need-mul-down
+mul-down c = search needs
+
+add-down : tie.Need-add-down
+add-down c = search needs
 
 shared-slice-read-mid-inputs-3 : tie.Need-shared-slice-read-mid-inputs-3
 shared-slice-read-mid-inputs-3 c = search needs
@@ -40,7 +47,8 @@ unfolding sumHit
 returns c =
     let mids = c .before .before in
     let last = mids .before .before in
-    rw (c .answer-at .ensures, mids .both-at .ensures .0, last .before .before .before .mid-inputs .ensures .0, last .mid-inputs2 .ensures .0)
+    let first = last .before .before .before in
+    rw (c .answer-at .ensures, mids .both-at .ensures .0, first .mid-inputs .ensures .0, last .mid-inputs2 .ensures .0, last-as-first)
 
 pub sum-hit-spec : {M : Type 1} → statement M
 sum-hit-spec =
@@ -49,6 +57,8 @@ sum-hit-spec =
     shared-slice-read-mid-inputs
     shared-slice-read-mid-inputs-2
     mid-inputs-requires
+    mul-down
+    add-down
     shared-slice-read-mid-inputs-3
     shared-slice-read-mid-inputs-4
     mid-inputs-requires-2

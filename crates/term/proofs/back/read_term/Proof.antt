@@ -1,7 +1,10 @@
 -- `term::back::read_term` meets its contract: what is decoded is encoded again and compared. Assumes nothing.
 use mathlib.Core.Path.{_≡_, sym, _∙_}
 use mathlib.Core.Bool.{Bool, true, false, cond}
-use Rattle.term.specs.Back.{readTerm, ReadMeans}
+use Rattle.lut.specs.Back.{ReadNumbered}
+use Rattle.term.specs.Rule.{Accepted}
+use Rattle.term.specs.Words.{wordsOf}
+use Rattle.term.specs.Back.{readTerm, ReadMeans, readNumber, readPlace}
 use Rattle.term.specs.declared.ReadTerm.the-variants.{Pattern, Refused}
 use Rattle.term.proofs.ReadingBack.{read-says}
 use borrow.Author.Needs.{needs}
@@ -27,7 +30,7 @@ same-words-requires c κs = search needs
 says : (c : tie.After-same-words) (b : Bool) → c .same-words .result ≡ b
     → let ws = c .before .before .before .before .before .before .args .words .now in
     let r = cond b (Pattern (c .before .before .before .before .four-part .result) (c .before .before .before .four-part2 .result)) Refused in
-    (r ≡ readTerm ws) × ReadMeans ws r
+    (r ≡ readTerm ws) × (ReadMeans ws r × ReadNumbered Accepted wordsOf ws (readNumber r) (readPlace r))
 says c b e =
     read-says (c .before .before .before .before .before .before .args .words .now) (c .before .before .term-words .result) _ _ b
     (c .before .before .before .before .four-part .ensures) (c .before .before .before .four-part2 .ensures)

@@ -9,7 +9,7 @@ use borrow.Author.Needs.{needs}
 use lib.ListN.{length}
 use Rattle.term.specs.Model.{chainHit}
 use Rattle.lines.proofs.Truth.{and-first, and-second}
-use Rattle.lut.proofs.Runs.{run-needed, run-other}
+use Rattle.lut.proofs.Runs.{run-needed, run-other, run-meets}
 use Rattle.term.proofs.Stepping.{Asked, ask-next, ask-end}
 use Rattle.term.proofs.model.run_term.Statement.{statement}
 use Rattle.term.proofs.model.run_term.Tie as tie
@@ -23,7 +23,8 @@ abbrev μ-loop : tie.MeasureT-loop
 returns : tie.Need-returns Inv-loop μ-loop
 returns c =
     let a = c .before .before .args in
-    sym (run-other 4 (a .words .now) (chainHit (a .words .now) (a .sample)) (c .if1 .taken))
+    let hit = chainHit (a .words .now) (a .sample) in
+    run-meets 4 (a .words .now) hit _ (sym (run-other 4 (a .words .now) hit (c .if1 .taken)))
 
 loop-holds : tie.Need-loop-holds Inv-loop μ-loop
 loop-holds c = (omega arith, omega arith, refl)
@@ -76,10 +77,12 @@ returns-2 : tie.Need-returns-2 Inv-loop μ-loop
 returns-2 c =
     let looped = c .before .before .loop in
     let args = c .before .before .before .before .before .args in
-    c .hit-or-miss .ensures
+    let hit = chainHit (args .words .now) (args .sample) in
+    run-meets 4 (args .words .now) hit _
+    (c .hit-or-miss .ensures
     ∙ sym
-    (run-needed 4 (args .words .now) (chainHit (args .words .now) (args .sample)) (looped .hit) (looped .inv .1)
-    (ask-end (args .words .now) (args .sample) (looped .i) (looped .hit) (looped .inv .1) (omega arith) (looped .inv .2)))
+    (run-needed 4 (args .words .now) hit (looped .hit) (looped .inv .1)
+    (ask-end (args .words .now) (args .sample) (looped .i) (looped .hit) (looped .inv .1) (omega arith) (looped .inv .2))))
 
 pub run-term-spec : {M : Type 1} → statement M
 run-term-spec =

@@ -1,0 +1,4 @@
+pub mod Compare
+pub mod Numbers
+pub mod Within
+pub mod FieldLaws

@@ -1,0 +1,5 @@
+pub mod Meanings
+pub mod Digits
+pub mod Lengths
+pub mod Room
+pub mod Theorems
