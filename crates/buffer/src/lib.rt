@@ -1,6 +1,6 @@
 // Lent room, and what every call of the house answers.
 // Promises: writers are total; one that refuses changes nothing, one that writes leaves what lies beyond.
-// Rests on: peek (bytes as they are read), lines (laws of tests).
+// Rests on: peek (bytes as they are read).
 mod fields;
 mod room;
 mod words;

@@ -1,6 +1,6 @@
 // The command line on a table of cases: the file args has one word to a line, and a line `--` after each case.
 // Promises: it is safe and ends. Complaints go to standard output too, so that the file stdout holds both, and each case's status.
-// Rests on: cli (what is run), faults, reader and term (two refusals that no command line meets), io and os.
+// Rests on: cli (what is run), refusal, reader and term (two refusals that no command line meets), io and os.
 use buffer::Outcome;
 use lut::Answer;
 
@@ -25,7 +25,7 @@ fn run_table(last: usize) {
 fn ends_case(first: usize, i: usize) -> bool {
     let mut buf = io::buffer();
     let n = os::arg(i, &mut buf);
-    if !peek::same_bytes(&buf[..n], b"--") {
+    if !compare::same_bytes(&buf[..n], b"--") {
         return false;
     }
     let status = run_case(first, i);

@@ -1,6 +1,6 @@
 // Arguments, files and complaints: what every verb of the command line does before and behind its own work.
 // Promises: every call is safe and ends. What is read and written no contract can say.
-// Rests on: refusal (the line of a refusal), faults and stream_faults (what stands there), text (words), buffer (bytes), io, libc and os (files, arguments).
+// Rests on: refusal (the line of a refusal), faults and stream_faults (what stands there), text (words), peek and buffer (bytes), io, libc and os (files, arguments).
 mod file;
 mod line;
 mod output;

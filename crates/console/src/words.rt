@@ -4,7 +4,7 @@
 pub fn is_word(arg: usize, word: &[u8]) -> bool {
     let mut buf = [0u8; 16];
     let n = os::arg(arg, &mut buf);
-    peek::same_bytes(&buf[..n], word)
+    compare::same_bytes(&buf[..n], word)
 }
 
 // Whether an argument asks for help.

@@ -4,7 +4,7 @@ use mathlib.Core.Bool.{Bool, _&&_}
 use mathlib.Core.List.{List, [], _∷_}
 use lib.Dec.{ltb}
 use lib.ListN.{length}
-use Rattle.peek.specs.Bytes.{allWithin}
+use Rattle.compare.specs.Within.{allWithin}
 use Rattle.records.specs.Sections.{sections}
 
 -- a word of the digits 0 to 9, at least one [A8]

@@ -3,8 +3,9 @@ use lib.Count.{ones}
 use lib.Dec.{T}
 use Rattle.lines.specs.Line.{flipLine, overLines}
 use Rattle.lines.specs.Gather.{gathered, scattered, dropLowest}
-use Rattle.peek.specs.Bytes.{u32At, allWithin}
-use Rattle.peek.specs.Same.{same}
+use Rattle.peek.specs.Bytes.{u32At}
+use Rattle.compare.specs.Within.{allWithin}
+use Rattle.compare.specs.Same.{same}
 use Rattle.lut.specs.Table.{tableOf, down}
 use Rattle.term.specs.Words.{nibbleTable, chainWord, termWords}
 use Rattle.range.specs.Rule.{rangeHit, rangeFault}

@@ -15,7 +15,7 @@ use Rattle.lines.proofs.Computed.{every-below}
 use Rattle.lut.specs.Input.{Fits}
 use Rattle.lut.specs.declared.Input.{Input}
 use Rattle.lut.specs.declared.Input.the-variants.{Nothing, Sample, Samples, Sources}
-use Rattle.peek.specs.Same.{same}
+use Rattle.compare.specs.Same.{same}
 use Rattle.kinds.specs.Table.{sections, kindOf, nameOf}
 use Rattle.kinds.specs.declared.Change.the-variants.{Oper, Word, Altr}
 use Rattle.notice.specs.declared.Finding.{Finding}

@@ -9,7 +9,7 @@ use lib.ListN.{replicate}
 use Rattle.peek.specs.Bytes.{u32At}
 use Rattle.lines.specs.Line.{flipLine}
 use Rattle.lines.specs.Gather.{gathered, scattered, dropLowest}
-use Rattle.peek.specs.Same.{same}
+use Rattle.compare.specs.Same.{same}
 use Rattle.records.specs.Sections.{fieldBytes, kindOf, mostOf, descriptionSize}
 use Rattle.records.specs.Records.{recordsFrom, find}
 use Rattle.sheet.specs.Parsed.{joined, render, sectionsFrom, parse}

@@ -5,7 +5,7 @@ use mathlib.Core.Bool.{Bool, true, false, cond}
 use mathlib.Core.List.{List, [], _∷_, map}
 use native.Mathlib.Omega.{arith}
 use lib.ListN.{length, getD, length-map, List·getD-map}
-use Rattle.peek.specs.Same.{same}
+use Rattle.compare.specs.Same.{same}
 use Rattle.buffer.proofs.Rising.{Climbs, climbs-from, climbs-below, climbs-rise, map-climbs}
 use Rattle.kinds.specs.Table.{changeOf}
 use Rattle.kinds.proofs.Rows.{most-byte}

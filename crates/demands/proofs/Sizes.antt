@@ -6,7 +6,8 @@ use native.Mathlib.Omega.{arith}
 use borrow.Author.Tests.{le-leb}
 use lib.Count.{ones, trailingZeros}
 use lib.ListN.{length, take, replicate}
-use Rattle.peek.specs.Bytes.{Bytes, u32At, allWithin}
+use Rattle.peek.specs.Bytes.{Bytes, u32At}
+use Rattle.compare.specs.Within.{allWithin}
 use Rattle.buffer.specs.Room.{Delivered}
 use Rattle.buffer.specs.declared.Outcome.{Outcome}
 use Rattle.buffer.specs.declared.Outcome.the-variants as Outcome
@@ -14,7 +15,7 @@ use Rattle.buffer.proofs.Writing.{answered}
 use Rattle.buffer.specs.declared.Verdict.the-variants.{Accepted}
 use Rattle.lines.specs.Line.{flipLine, overLines}
 use Rattle.lines.specs.Gather.{gathered, scattered, dropLowest}
-use Rattle.peek.specs.Same.{same}
+use Rattle.compare.specs.Same.{same}
 use Rattle.records.specs.Sections.{labelSize, fieldBytes, kindOf, mostOf, descriptionSize, descriptionFault}
 use Rattle.sheet.specs.Reading.{recordFault, recordsVerdict, countVerdict, sectionVerdict, sectionsVerdict, verdict}
 use Rattle.records.specs.Records.{recordsFrom, find}

@@ -5,7 +5,7 @@ use Prim.Native.Nat.{ℕ}
 use lib.Dec.{eqb}
 use lib.ListN.{replicate}
 use Rattle.lines.specs.Gather.{gathered}
-use Rattle.peek.specs.Same.{same}
+use Rattle.compare.specs.Same.{same}
 use Rattle.buffer.specs.Verdict.{verdictNumber}
 use Rattle.lut.specs.Answer.{answerHit}
 use Rattle.term.specs.Words.{termWords}

@@ -6,8 +6,8 @@ use mathlib.Core.Bool.{Bool, true, false, cond, _&&_}
 use mathlib.Core.List.{List}
 use native.Mathlib.Omega.{arith}
 use lib.ListN.{length}
-use Rattle.peek.specs.Same.{same}
-use Rattle.peek.proofs.Compare.{same-refl, same-true, same-lengths}
+use Rattle.compare.specs.Same.{same}
+use Rattle.compare.proofs.Compare.{same-refl, same-true, same-lengths}
 use Rattle.lines.proofs.Truth.{both-true}
 use Rattle.lut.specs.Back.{ReadNumbered}
 use Rattle.lut.proofs.Numbers.{numbered-read, numbered-refused}

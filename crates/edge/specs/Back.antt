@@ -8,7 +8,7 @@ use mathlib.Core.Bool.{cond, _&&_}
 use mathlib.Core.List.{List, [], _∷_}
 use lib.Bits.{bitAnd}
 use lib.Dec.{eqb}
-use Rattle.peek.specs.Same.{same}
+use Rattle.compare.specs.Same.{same}
 use Rattle.lut.specs.Table.{high, low, oneIf}
 use Rattle.edge.specs.declared.Event.{Event}
 use Rattle.edge.specs.declared.Event.the-variants.{Rise, Fall, Neither}

@@ -64,7 +64,7 @@ pub fn read_edge(words: &[u32]) -> ReadEdge
         return ReadEdge::Refused;
     }
     let again = edge_words(rise, fall, neither);
-    if peek::same_words(words, &again) {
+    if compare::same_words(words, &again) {
         ReadEdge::Edge(rise, fall, neither)
     } else {
         ReadEdge::Refused

@@ -10,7 +10,7 @@ use lib.Bits.{bitAnd, bitXor}
 use lib.Dec.{eqb}
 use lib.ListN.{length, getD, length-append}
 use Rattle.lines.specs.Gather.{scattered}
-use Rattle.peek.specs.Same.{same}
+use Rattle.compare.specs.Same.{same}
 use Rattle.lut.specs.declared.Input.the-variants.{Nothing, Sample, Samples, Sources}
 use Rattle.lut.specs.declared.Telling.{Telling}
 use Rattle.lut.specs.declared.Telling.the-variants.{Alike, Apart}

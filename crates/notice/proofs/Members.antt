@@ -7,8 +7,8 @@ use mathlib.Core.Logic.{_↔_, ⊎-elim}
 use native.Mathlib.Omega.{arith}
 use native.Mathlib.Decide.{ℕ-discrete}
 use lib.ListN.{getD}
-use Rattle.peek.specs.Same.{same}
-use Rattle.peek.proofs.Compare.{same-refl, same-false}
+use Rattle.compare.specs.Same.{same}
+use Rattle.compare.proofs.Compare.{same-refl, same-false}
 use Rattle.kinds.specs.Table.{changeOf}
 use Rattle.records.specs.Sections.{sections, mostOf, labelOf, descriptionOf}
 use Rattle.records.specs.Records.{find}

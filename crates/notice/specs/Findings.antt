@@ -2,7 +2,7 @@
 use Prim.Native.Nat.{ℕ}
 use mathlib.Core.Bool.{cond}
 use mathlib.Core.List.{List, [], _∷_, _++_}
-use Rattle.peek.specs.Same.{same}
+use Rattle.compare.specs.Same.{same}
 use Rattle.kinds.specs.Table.{changeOf}
 use Rattle.records.specs.Sections.{labelOf, descriptionOf}
 use Rattle.notice.specs.declared.Finding.{Finding}

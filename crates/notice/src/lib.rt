@@ -1,6 +1,6 @@
 // The alteration notice: what changed between two set-up sheets, old and new, line by line.
 // Promises: over any bytes and any room, the rendered lines and their length, or a refusal that changes nothing.
-// Rests on: kinds (names, what is found of two descriptions), sheet (verdict, sections), records, buffer (lent room).
+// Rests on: kinds (names, what is found of two descriptions), sheet (verdict, sections), records, compare (parts that differ), buffer (lent room).
 mod put;
 mod text;
 

@@ -25,7 +25,7 @@ fn put_unless_same(out: &mut [u8], at: usize, old: &[u8], new: &[u8], line: Line
     requires { ⌜ at + length (renderAll (unlessSame (now old) (now new) line)) ≤ length (now out) ⌝ }
     ensures { λ r. ⌜ Wrote at (renderAll (unlessSame (now (old .entry)) (now (new .entry)) line)) (now (out .entry)) (now (out .exit)) r ⌝ }
 {
-    if peek::same_bytes(old, new) {
+    if compare::same_bytes(old, new) {
         at
     } else {
         put_line(out, at, line)
@@ -37,7 +37,7 @@ fn put_changed(out: &mut [u8], at: usize, section: usize, slot: u8, old: &[u8], 
     requires { ⌜ at + length (renderAll (unlessSame (now old) (now new) (line section slot (Changed (changeOf section (now old) (now new)))))) ≤ length (now out) ⌝ }
     ensures { λ r. ⌜ Wrote at (renderAll (unlessSame (now (old .entry)) (now (new .entry)) (line section slot (Changed (changeOf section (now (old .entry)) (now (new .entry))))))) (now (out .entry)) (now (out .exit)) r ⌝ }
 {
-    if peek::same_bytes(old, new) {
+    if compare::same_bytes(old, new) {
         return at;
     }
     let line = Line {

@@ -1,4 +1,2 @@
-pub mod Compare
 pub mod Numbers
-pub mod Within
 pub mod FieldLaws

@@ -1,8 +1,6 @@
 -- Bytes, and the numbers that they make.
 use Prim.Native.Nat.{ℕ, _+_, _*_, _/_, _%_, _<_}
-use mathlib.Core.Bool.{Bool, true, _&&_}
 use mathlib.Core.List.{List, [], _∷_}
-use lib.Dec.{leb}
 use lib.ListN.{getD}
 
 -- a list of bytes: each number is below 256, and past the end 0 [B2, B4]
@@ -16,8 +14,3 @@ u32At s at = getD s at 0 + getD s (at + 1) 0 * 256 + getD s (at + 2) 0 * 65536 +
 -- a number as four bytes, least byte first [B3]
 abbrev pub u32Bytes : ℕ → List ℕ
 u32Bytes n = n % 256 ∷ n / 256 % 256 ∷ n / 65536 % 256 ∷ n / 16777216 % 256 ∷ []
-
--- each byte is from low to high: labels from 0x20 to 0x7E, operations from 0 to 9 [S4, S6]
-unfoldable pub allWithin : ℕ → ℕ → List ℕ → Bool
-allWithin low high [] = true
-allWithin low high (b ∷ bs) = leb low b && leb b high && allWithin low high bs

@@ -1,3 +1,2 @@
-pub mod Same
 pub mod Bytes
 pub mod Fields

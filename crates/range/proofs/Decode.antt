@@ -12,12 +12,12 @@ use lib.ListN.{length, take, drop}
 use lib.Pow.{pow-pos}
 use Rattle.lines.specs.Line.{line}
 use Rattle.lines.specs.Gather.{scattered}
-use Rattle.peek.specs.Same.{same}
+use Rattle.compare.specs.Same.{same}
 use Rattle.lines.proofs.Truth.{both-true}
 use Rattle.lines.proofs.Digit.{bit-lt, from-lines, lines-not}
 use Rattle.lines.proofs.Ones.{ones-in}
 use Rattle.lines.proofs.Scattering.{scatter-lt, scatter-unmasked, gather-back}
-use Rattle.peek.proofs.Compare.{same-true, same-equal}
+use Rattle.compare.proofs.Compare.{same-true, same-equal}
 use Rattle.lut.specs.Table.{oneIf}
 use Rattle.lut.specs.Back.{ReadNumbered}
 use Rattle.lut.proofs.Numbers.{numbered-read, numbered-refused}

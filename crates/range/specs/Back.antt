@@ -11,7 +11,7 @@ use lib.Dec.{eqb, leb}
 use lib.ListN.{length, take, drop}
 use Rattle.lines.specs.Line.{fromLines}
 use Rattle.lines.specs.Gather.{gathered}
-use Rattle.peek.specs.Same.{same}
+use Rattle.compare.specs.Same.{same}
 use Rattle.lut.specs.Table.{oneIf}
 use Rattle.range.specs.declared.Range.{Range}
 use Rattle.range.specs.declared.ReadRange.{ReadRange}

@@ -1,7 +1,7 @@
 // The way back: words decoded to a range, which is encoded again and compared.
 ghost use mathlib.Core.Path.{_≡_};
 ghost use lib.ListN.{length};
-ghost use Rattle.peek.specs.Same.{same};
+ghost use Rattle.compare.specs.Same.{same};
 ghost use Rattle.lut.specs.Back.{ReadNumbered};
 ghost use Rattle.range.specs.Rule.{Accepted};
 ghost use Rattle.range.specs.Words.{sentWords, wordsOf};
@@ -46,8 +46,8 @@ fn writes(words: &[u32], lower: u32, upper: u32, mask: u32) -> bool
     let chains = range_words(lower, upper, mask);
     let lower_chain = chains[0];
     let upper_chain = chains[1];
-    if peek::same_words(&words[..16], &lower_chain) {
-        return peek::same_words(&words[16..], &upper_chain);
+    if compare::same_words(&words[..16], &lower_chain) {
+        return compare::same_words(&words[16..], &upper_chain);
     }
     false
 }

@@ -4,7 +4,7 @@ use native.Mathlib.Omega.{arith}
 use lib.Count.{ones, ones-ones}
 use lib.Dec.{T, lit<}
 use Rattle.lines.specs.Gather.{scattered}
-use Rattle.peek.specs.Same.{same}
+use Rattle.compare.specs.Same.{same}
 use Rattle.lut.specs.Table.{down}
 use Rattle.range.specs.Rule.{RangeAccepted}
 use Rattle.range.specs.Words.{chainWords, lowerValue, upperValue, sentWords}

@@ -9,9 +9,10 @@ use lib.Dec.{T, eqb}
 use lib.ListN.{length, take, replicate}
 use Rattle.lines.specs.Line.{overLines, fromLines}
 use Rattle.lines.specs.Gather.{gathered, scattered}
-use Rattle.peek.specs.Same.{same}
+use Rattle.compare.specs.Same.{same}
 use Rattle.lut.specs.Table.{tableOf, down}
-use Rattle.peek.specs.Bytes.{u32At, allWithin}
+use Rattle.peek.specs.Bytes.{u32At}
+use Rattle.compare.specs.Within.{allWithin}
 use Rattle.buffer.specs.Room.{bytes}
 use Rattle.buffer.specs.declared.Verdict.{Verdict}
 use Rattle.buffer.specs.declared.Verdict.the-variants.{Accepted, Refused}

@@ -10,12 +10,13 @@ use lib.Dec.{eqb, ltb, leb, leb→le, lit<}
 use lib.ListN.{length, take, drop, length-append, length-drop, length-map}
 use lib.Seq.{take-at, drop-at}
 use Rattle.lines.proofs.Computed.{every-below}
-use Rattle.peek.specs.Bytes.{Bytes, allWithin}
+use Rattle.peek.specs.Bytes.{Bytes}
+use Rattle.compare.specs.Within.{allWithin}
 use Rattle.buffer.specs.Verdict.{refuseIf}
 use Rattle.buffer.specs.declared.Verdict.the-variants.{Accepted}
 use Rattle.buffer.proofs.Faults.{andThen-accepted, andThen-both, refuseIf-accepted}
 use Rattle.peek.proofs.Numbers.{bytes-cons, bytes-append, bytes-drop}
-use Rattle.peek.proofs.Within.{within-bytes}
+use Rattle.compare.proofs.Within.{within-bytes}
 use Rattle.command.specs.Command.{selectOp}
 use Rattle.command.specs.Reading.{number, commandVerdict}
 use Rattle.records.specs.Sections.{sections, labelSize, mostOf, descriptionSize, recordSize, descriptionFault, slotOf, labelOf, descriptionOf}

@@ -10,8 +10,8 @@ use lib.Ieee.Bits.{is-true}
 use lib.Dec.{eqb, leb, lit≤, eqb→eq, leb→le}
 use lib.ListN.{length, getD, take, drop, replicate, List·getD-eq-default}
 use Rattle.lines.proofs.Computed.{every-below}
-use Rattle.peek.specs.Same.{same}
-use Rattle.peek.proofs.Compare.{same-true}
+use Rattle.compare.specs.Same.{same}
+use Rattle.compare.proofs.Compare.{same-true}
 use Rattle.refusal.specs.Words.{ascii, meanings, noRefusal, meaningOf}
 
 -- a number that no refusal has

@@ -9,8 +9,8 @@ use native.Mathlib.Nat.{pow-suc}
 use native.Mathlib.Omega.{arith}
 use borrow.Author.Tests.{lt-ltb, le-ltb, le-leb}
 use lib.ListN.{length, getD, length-append}
-use Rattle.peek.specs.Bytes.{allWithin}
-use Rattle.peek.proofs.Within.{within-append}
+use Rattle.compare.specs.Within.{allWithin}
+use Rattle.compare.proofs.Within.{within-append}
 use Rattle.decimal.specs.Decimal.{decimalFrom}
 use Rattle.refusal.specs.Line.{digitsWithin, decimal, refusalText, refusalLine}
 use Rattle.refusal.proofs.Lengths.{digits-length, line-length}

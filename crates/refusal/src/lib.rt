@@ -1,6 +1,6 @@
 // The line that tells people of a refusal, built in lent room.
 // Promises: each call equals its definition in specs/: file, number, place, meaning and detail stand where the rule has them.
-// Rests on: buffer (lent room), io (decimal digits).
+// Rests on: peek (parts), buffer (lent room), io (decimal digits).
 mod line;
 mod meaning;
 mod put;

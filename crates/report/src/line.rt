@@ -43,7 +43,7 @@ fn counted(count: usize, is_one: bool) -> usize {
 }
 
 pub(crate) fn is_finding(line: &[u8], finding: &[u8]) -> bool {
-    peek::same_bytes(peek::prefix(peek::suffix(line, FINDING), WORD), finding)
+    compare::same_bytes(peek::prefix(peek::suffix(line, FINDING), WORD), finding)
 }
 
 // The section that a line speaks of, by its four letters; SECTIONS if none has them.
@@ -61,7 +61,7 @@ pub(crate) fn section_of(line: &[u8]) -> usize {
 }
 
 fn is_kind(line: &[u8], kind: &[u8]) -> bool {
-    peek::same_bytes(peek::prefix(line, WORD), kind)
+    compare::same_bytes(peek::prefix(line, WORD), kind)
 }
 
 // The slot that a line speaks of.

@@ -8,7 +8,8 @@ use native.Mathlib.Nat.{add-zero, zero-add, zero-div}
 use native.Mathlib.Omega.{arith}
 use lib.Dec.{ltb, eqb}
 use lib.ListN.{length, getD, take, drop, replicate, length-drop, length-replicate}
-use Rattle.peek.specs.Bytes.{Bytes, allWithin}
+use Rattle.peek.specs.Bytes.{Bytes}
+use Rattle.compare.specs.Within.{allWithin}
 use Rattle.buffer.specs.Verdict.{isAccepted}
 use Rattle.buffer.specs.declared.Verdict.the-variants.{Accepted}
 use Rattle.peek.proofs.Numbers.{bytes-nil, bytes-cons, bytes-append, bytes-take, bytes-drop}

@@ -6,7 +6,8 @@ use mathlib.Core.Path.{_≡_, refl, sym}
 use lib.Count.{ones, onesIn}
 use lib.Dec.{T, eqb, lit<}
 use lib.ListN.{length, getD, replicate}
-use Rattle.peek.specs.Bytes.{u32At, allWithin}
+use Rattle.peek.specs.Bytes.{u32At}
+use Rattle.compare.specs.Within.{allWithin}
 use Rattle.buffer.specs.declared.Verdict.{Verdict}
 use Rattle.buffer.specs.declared.Verdict.the-variants.{Accepted, Refused}
 use Rattle.lines.specs.Line.{overLines}

@@ -7,7 +7,7 @@ use mathlib.Core.List.{List}
 use mathlib.Core.Path.{_≡_, refl, _∙_}
 use lib.Dec.{eqb, ltb, leb}
 use lib.ListN.{length}
-use Rattle.peek.specs.Bytes.{allWithin}
+use Rattle.compare.specs.Within.{allWithin}
 use Rattle.buffer.specs.Verdict.{faultUnless}
 use Rattle.records.specs.Sections.{faultIf, mostOf, descriptionFault, recordSize, slotOf, labelOf, descriptionOf}
 use Rattle.sheet.specs.Reading.{recordFault}

@@ -7,7 +7,7 @@ use lib.Dec.{lit<}
 use lib.ListN.{length, getD, take}
 use Rattle.peek.specs.Bytes.{Bytes}
 use Rattle.buffer.specs.declared.Verdict.the-variants.{Accepted, Refused}
-use Rattle.peek.proofs.Within.{within-at}
+use Rattle.compare.proofs.Within.{within-at}
 use Rattle.records.specs.Sections.{sections, kindOf, mostOf, descriptionSize, descriptionFault, slotOf, labelOf}
 use Rattle.sheet.specs.Reading.{recordsVerdict, countVerdict, sectionVerdict, sectionsVerdict, verdict}
 use Rattle.records.specs.Records.{recordAt, recordCount, find, front}

@@ -5,7 +5,8 @@ use mathlib.Core.Bool.{true}
 use mathlib.Core.List.{List, [], _∷_, _++_}
 use mathlib.Core.Path.{_≡_}
 use lib.ListN.{length, getD, drop}
-use Rattle.peek.specs.Bytes.{Bytes, allWithin}
+use Rattle.peek.specs.Bytes.{Bytes}
+use Rattle.compare.specs.Within.{allWithin}
 use Rattle.buffer.specs.declared.Verdict.the-variants.{Accepted}
 use Rattle.records.specs.Sections.{sections, mostOf, recordSize, sectionSize, descriptionFault, slotOf, labelOf, descriptionOf}
 use Rattle.sheet.specs.Reading.{verdict}

@@ -5,7 +5,7 @@ use mathlib.Core.Bool.{not}
 use mathlib.Core.List.{List}
 use lib.Dec.{ltb, leb}
 use lib.ListN.{length, getD, take, drop}
-use Rattle.peek.specs.Bytes.{allWithin}
+use Rattle.compare.specs.Within.{allWithin}
 use Rattle.buffer.specs.Verdict.{andThen, refuseIf, refuseFault}
 use Rattle.buffer.specs.declared.Verdict.{Verdict}
 use Rattle.buffer.specs.declared.Verdict.the-variants.{Accepted}

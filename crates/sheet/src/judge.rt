@@ -3,7 +3,7 @@ ghost use mathlib.Core.Path.{_≡_};
 ghost use mathlib.Core.Bool.{cond};
 ghost use lib.Dec.{eqb};
 ghost use lib.ListN.{drop};
-ghost use Rattle.peek.specs.Bytes.{allWithin};
+ghost use Rattle.compare.specs.Within.{allWithin};
 ghost use Rattle.buffer.specs.Verdict.{faultUnless, VerdictNumbered};
 ghost use Rattle.sheet.specs.Reading.{recordFault, recordsVerdict, sectionVerdict, verdict};
 use buffer::Verdict;
@@ -40,7 +40,7 @@ const LABEL_LAST: u8 = 0x7e;
 fn label_fault(bytes: &[u8]) -> u8
     ensures { λ r. ⌜ r ≡ faultUnless (allWithin 0x20 0x7E (now (bytes .entry))) 5 ⌝ }
 {
-    if peek::all_within(LABEL_FIRST, LABEL_LAST, bytes) {
+    if compare::all_within(LABEL_FIRST, LABEL_LAST, bytes) {
         NO_FAULT
     } else {
         BAD_LABEL

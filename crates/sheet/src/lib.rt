@@ -1,6 +1,6 @@
 // The set-up sheet: sections of records, each after a one-byte count; judged, and taken apart into its sections.
 // Promises: `check` gives the first fault's number and place; `section` a part of the lent bytes; any bytes are taken.
-// Rests on: buffer (bytes, verdicts), records (the table of sections, the fields and faults of a record).
+// Rests on: peek and compare (bytes), buffer (verdicts), records (the table of sections, the fields and faults of a record).
 mod judge;
 mod parts;
 

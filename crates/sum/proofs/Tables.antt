@@ -15,7 +15,7 @@ use Rattle.lines.proofs.Truth.{and-left, and-right}
 use Rattle.lut.specs.Table.{high, low, wordOf}
 use Rattle.lut.proofs.Halves.{high-half, low-half, word-lt}
 use Rattle.sum.specs.Operation.{pairOps, midOps, finalOps, opWord, opCode, codesAccepted}
-use Rattle.peek.proofs.Within.{within-at}
+use Rattle.compare.proofs.Within.{within-at}
 use Rattle.sum.specs.Words.{joined, wordsOf}
 
 -- the word of code c has sixteen bits, and its code is c

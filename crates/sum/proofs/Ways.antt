@@ -14,7 +14,7 @@ use Rattle.peek.specs.Bytes.{Bytes}
 use Rattle.buffer.specs.Room.{fill}
 use Rattle.peek.specs.Fields.{Writes}
 use Rattle.buffer.proofs.Faults.{unless-none}
-use Rattle.peek.proofs.Within.{within-bytes}
+use Rattle.compare.proofs.Within.{within-bytes}
 use Rattle.buffer.proofs.Writing.{fill-all}
 use Rattle.sum.specs.declared.ReadSum.{ReadSum}
 use Rattle.sum.specs.Operation.{codesAccepted, Accepted}

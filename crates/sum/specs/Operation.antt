@@ -5,7 +5,7 @@ use mathlib.Core.Path.{_≡_}
 use mathlib.Core.List.{List, [], _∷_}
 use lib.Dec.{eqb}
 use lib.ListN.{length, getD}
-use Rattle.peek.specs.Bytes.{allWithin}
+use Rattle.compare.specs.Within.{allWithin}
 
 -- the words of a pair's operation [W15, L1]
 abbrev pub pairOps : List ℕ

@@ -49,7 +49,7 @@ pub(crate) const FINAL: [u16; 10] = [
 pub(crate) fn codes_accepted(ops: &[u8]) -> bool
     ensures { λ r. ⌜ r ≡ codesAccepted (now (ops .entry)) ⌝ }
 {
-    peek::all_within(0, LAST_CODE, ops)
+    compare::all_within(0, LAST_CODE, ops)
 }
 
 // The word of an operation code in one of the tables, which is lent; 0 for a byte that is no code.

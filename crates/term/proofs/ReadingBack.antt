@@ -14,8 +14,8 @@ use lib.Count.{trailingZeros}
 use lib.Dec.{T, eqb, eqb→eq, lit<}
 use lib.ListN.{length, getD}
 use lib.Pow.{pow-add, mod-pow-add}
-use Rattle.peek.specs.Same.{same}
-use Rattle.peek.proofs.Compare.{same-refl, same-true}
+use Rattle.compare.specs.Same.{same}
+use Rattle.compare.proofs.Compare.{same-refl, same-true}
 use Rattle.lines.proofs.Computed.{nibbles, everyWithin, every-within}
 use Rattle.lut.specs.Table.{tableOf, down}
 use Rattle.lut.proofs.Tables.{table-lt}

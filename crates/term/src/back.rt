@@ -76,7 +76,7 @@ pub fn read_term(words: &[u32]) -> ReadTerm
     let target = four_part(Part::Target, words);
     let mask = four_part(Part::Mask, words);
     let again = super::words::term_words(target, mask);
-    if peek::same_words(words, &again) {
+    if compare::same_words(words, &again) {
         ReadTerm::Pattern(target, mask)
     } else {
         ReadTerm::Refused

@@ -5,7 +5,7 @@ use mathlib.Core.Path.{refl, sym, ap, _∙_}
 use mathlib.Core.Bool.{true, false}
 use denote.Ref.{now}
 use borrow.Author.Tests.{not-true, not-false}
-use Rattle.peek.specs.Same.{same}
+use Rattle.compare.specs.Same.{same}
 use Rattle.edge.proofs.ReadingBack.{read-other, read-candidate}
 use Rattle.edge.proofs.back.read_edge.Statement.{statement}
 use Rattle.edge.proofs.back.read_edge.Tie as tie

@@ -7,8 +7,8 @@ use native.Mathlib.Omega.{arith}
 use borrow.Author.Needs.{needs}
 use lib.ListN.{length, take, drop, getD, length-drop, take-append-drop}
 use lib.Seq.{length-take-le, take-all}
-use Rattle.peek.specs.Same.{same}
-use Rattle.peek.proofs.Compare.{same-append}
+use Rattle.compare.specs.Same.{same}
+use Rattle.compare.proofs.Compare.{same-append}
 use Rattle.range.specs.Words.{lowerValue, lowerChain, upperChain, rangeWords, sentWords}
 use Rattle.range.proofs.Tables.{length-chain, sent-chains}
 use Rattle.range.proofs.Made.{lower-made, upper-made, lower-count, upper-count}

@@ -13,13 +13,15 @@ use Rattle.refusal.proofs.line.put_line.Statement.{statement}
 use Rattle.refusal.proofs.line.put_line.Tie as tie
 
 -- the words stand at the start of their own room
-spelled : (c : tie.After-put-text) → take (c .put-text .result) (c .put-text .last .0) ≡ refusalText (c .before .before .before .before .before .args .number) (c .before .before .before .before .before .args .place)
+spelled : (c : tie.After-put-text) → let args = c .before .before .before .before .before .args in
+    take (c .put-text .result) (c .put-text .last .0) ≡ refusalText (args .number) (args .place)
 spelled c = front-text _ _ _ _ (c .put-text .ensures)
 
 -- the whole line's length, as it is tested
 measured : (c : tie.After-put-text)
-    → length (refusalLine (now (c .before .before .before .before .before .args .file)) (c .before .before .before .before .before .args .number) (c .before .before .before .before .before .args .place) (now (c .before .before .before .before .before .args .detail)))
-    ≡ c .put-text .result + 5 + (length (now (c .before .before .before .before .before .args .file)) + length (now (c .before .before .before .before .before .args .detail)))
+    → let args = c .before .before .before .before .before .args in
+    length (refusalLine (now (args .file)) (args .number) (args .place) (now (args .detail)))
+    ≡ c .put-text .result + 5 + (length (now (args .file)) + length (now (args .detail)))
 measured c = rw (front-count _ _ _ _ (c .put-text .ensures)) (line-length _ _ _)
 
 slice-aggregate-put-text : tie.Need-slice-aggregate-put-text
@@ -46,15 +48,17 @@ prefix-requires c κs = tt
 
 put-parts-requires : tie.Need-put-parts-requires
 put-parts-requires c κs =
-    rw (c .prefix .ensures ∙ spelled (c .before .before .before .before .before .before), measured (c .before .before .before .before .before .before)) (leb-true _ _ (sym (c .before .before .before .before .is-room .ensures) ∙ not-false _ (c .before .before .before .if1 .left)))
+    let at-here = c .before .before .before .before .before .before in
+    rw (c .prefix .ensures ∙ spelled at-here, measured at-here) (leb-true _ _ (sym (c .before .before .before .before .is-room .ensures) ∙ not-false _ (c .before .before .before .if1 .left)))
 
 same-length : tie.Need-same-length
 same-length c = c .before .before .put-parts .kept .0
 
 returns-2 : tie.Need-returns-2
 returns-2 c =
-    put-fits _ _ _ _ _ (rw (measured (c .before .before .before .before .before .before .before .before .before)) (leb-true _ _ (sym (c .before .before .before .before .before .before .before .is-room .ensures) ∙ not-false _ (c .before .before .before .before .before .before .if1 .left))))
-    (rw (c .before .before .before .prefix .ensures ∙ spelled (c .before .before .before .before .before .before .before .before .before)) at (c .before .before .put-parts .ensures))
+    let at-here = c .before .before .before .before .before .before .before .before .before in
+    put-fits _ _ _ _ _ (rw (measured at-here) (leb-true _ _ (sym (c .before .before .before .before .before .before .before .is-room .ensures) ∙ not-false _ (c .before .before .before .before .before .before .if1 .left))))
+    (rw (c .before .before .before .prefix .ensures ∙ spelled at-here) at (c .before .before .put-parts .ensures))
 
 pub put-line-spec : {M : Type 1} → statement M
 put-line-spec =

@@ -3,7 +3,7 @@ use borrow.Author.Needs.{needs}
 use mathlib.Core.Path.{_≡_, _∙_, sym}
 use mathlib.Core.Bool.{true, false}
 use denote.Ref.{now}
-use Rattle.peek.specs.Bytes.{allWithin}
+use Rattle.compare.specs.Within.{allWithin}
 use Rattle.sheet.proofs.judge.label_fault.Statement.{statement}
 use Rattle.sheet.proofs.judge.label_fault.Tie as tie
 

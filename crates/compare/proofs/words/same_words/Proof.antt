@@ -1,14 +1,14 @@
--- `peek::same_words` meets its contract: what the words from i on say is what all of them say.
+-- `compare::same_words` meets its contract: what the words from i on say is what all of them say.
 -- Assumes nothing.
 use mathlib.Core.Path.{_≡_, sym, _∙_}
 use Prim.Native.Nat.{_≤_, _-_}
 use native.Mathlib.Omega.{arith}
 use borrow.Author.Needs.{needs}
 use lib.ListN.{length, drop}
-use Rattle.peek.specs.Same.{same}
-use Rattle.peek.proofs.Compare.{same-lengths, same-more, same-differ, same-end}
-use Rattle.peek.proofs.words.same_words.Statement.{statement}
-use Rattle.peek.proofs.words.same_words.Tie as tie
+use Rattle.compare.specs.Same.{same}
+use Rattle.compare.proofs.Compare.{same-lengths, same-more, same-differ, same-end}
+use Rattle.compare.proofs.words.same_words.Statement.{statement}
+use Rattle.compare.proofs.words.same_words.Tie as tie
 
 abbrev Inv-loop : tie.InvT-loop
 Inv-loop a b i₀ i = (i ≤ length a) × (length a ≡ length b) × (same a b ≡ same (drop i a) (drop i b))

@@ -1,4 +1,4 @@
--- `peek::eight_within` meets its contract. The loop's invariant: whether the bytes from i on are within.
+-- `compare::eight_within` meets its contract. The loop's invariant: whether the bytes from i on are within.
 -- Assumes nothing.
 use native.Mathlib.Omega.{arith}
 use Prim.Native.Nat.{_≤_}
@@ -6,10 +6,10 @@ use mathlib.Core.Path.{_≡_, _∙_, sym, ap}
 use lib.ListN.{length, drop}
 use denote.Ref.{now}
 use borrow.Author.Needs.{needs}
-use Rattle.peek.specs.Bytes.{allWithin}
-use Rattle.peek.proofs.Within.{within-end, within-down}
-use Rattle.peek.proofs.bytes.eight_within.Statement.{statement}
-use Rattle.peek.proofs.bytes.eight_within.Tie as tie
+use Rattle.compare.specs.Within.{allWithin}
+use Rattle.compare.proofs.Within.{within-end, within-down}
+use Rattle.compare.proofs.bounds.eight_within.Statement.{statement}
+use Rattle.compare.proofs.bounds.eight_within.Tie as tie
 
 abbrev Inv-loop : tie.InvT-loop
 Inv-loop low high bytes all₀ i₀ all i = (i ≤ 8) × (all ≡ allWithin low high (drop i bytes))

@@ -1,6 +1,6 @@
 // Chain words compared.
 ghost use mathlib.Core.Path.{_≡_};
-ghost use Rattle.peek.specs.Same.{same};
+ghost use Rattle.compare.specs.Same.{same};
 
 // Whether two chains have the same words.
 pub fn same_words(a: &[u32], b: &[u32]) -> bool

@@ -1,8 +1,8 @@
--- `peek::is_within` meets its contract. Assumes nothing.
+-- `compare::is_within` meets its contract. Assumes nothing.
 use mathlib.Core.Path.{_≡_}
 use borrow.Author.Tests.{le-leb, lt-leb}
-use Rattle.peek.proofs.bytes.is_within.Statement.{statement}
-use Rattle.peek.proofs.bytes.is_within.Tie as tie
+use Rattle.compare.proofs.bounds.is_within.Statement.{statement}
+use Rattle.compare.proofs.bounds.is_within.Tie as tie
 
 returns : tie.Need-returns
 returns c = simp (lt-leb _ _ (c .if1 .taken))

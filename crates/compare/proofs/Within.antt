@@ -10,8 +10,9 @@ use mathlib.Core.Path.{_≡_, refl, sym, ap, ap₂, _∙_}
 use lib.Dec.{leb}
 use lib.ListN.{length, getD, take, drop, take-append-drop, drop-of-length-le}
 use lib.Seq.{drop-cons}
-use Rattle.peek.specs.Bytes.{Bytes, allWithin}
+use Rattle.peek.specs.Bytes.{Bytes}
+use Rattle.compare.specs.Within.{allWithin}
 use Rattle.peek.proofs.Numbers.{bytes-nil, bytes-cons}
 
 -- ---- what it says
 

@@ -1,4 +1,4 @@
--- `peek::each_within` meets its contract. The loop's invariant: the bytes from i on decide the answer.
+-- `compare::each_within` meets its contract. The loop's invariant: the bytes from i on decide the answer.
 -- Assumes nothing.
 use native.Mathlib.Omega.{arith}
 use Prim.Native.Nat.{_≤_, _-_}
@@ -7,10 +7,10 @@ use lib.ListN.{length, drop}
 use denote.Ref.{now}
 use borrow.Author.Needs.{needs}
 use borrow.Author.Tests.{not-true, not-false}
-use Rattle.peek.specs.Bytes.{allWithin}
-use Rattle.peek.proofs.Within.{within-not, within-next, within-end}
-use Rattle.peek.proofs.bytes.each_within.Statement.{statement}
-use Rattle.peek.proofs.bytes.each_within.Tie as tie
+use Rattle.compare.specs.Within.{allWithin}
+use Rattle.compare.proofs.Within.{within-not, within-next, within-end}
+use Rattle.compare.proofs.bounds.each_within.Statement.{statement}
+use Rattle.compare.proofs.bounds.each_within.Tie as tie
 
 abbrev Inv-loop : tie.InvT-loop
 Inv-loop low high bytes i₀ i = (i ≤ length bytes) × (allWithin low high bytes ≡ allWithin low high (drop i bytes))

@@ -1,4 +1,4 @@
--- `peek::all_within` meets its contract: the first eight bytes, where there are as many, then the rest. Assumes nothing.
+-- `compare::all_within` meets its contract: the first eight bytes, where there are as many, then the rest. Assumes nothing.
 use mathlib.Core.Bool.{Bool}
 use mathlib.Core.Logic.{⊎-elim}
 use mathlib.Core.Path.{_≡_, _∙_, sym, ap}
@@ -8,10 +8,10 @@ use lib.Seq.{length-take-le}
 use denote.Ref.{now}
 use borrow.Author.Needs.{needs}
 use borrow.Author.Tests.{not-true, not-false}
-use Rattle.peek.specs.Bytes.{allWithin}
-use Rattle.peek.proofs.Within.{eight-not, eight-then}
-use Rattle.peek.proofs.bytes.all_within.Statement.{statement}
-use Rattle.peek.proofs.bytes.all_within.Tie as tie
+use Rattle.compare.specs.Within.{allWithin}
+use Rattle.compare.proofs.Within.{eight-not, eight-then}
+use Rattle.compare.proofs.bounds.all_within.Statement.{statement}
+use Rattle.compare.proofs.bounds.all_within.Tie as tie
 
 prefix-requires : tie.Need-prefix-requires
 prefix-requires c κs = search needs

@@ -1,4 +1,4 @@
--- `peek::same_bytes` meets its contract: the first eight and the last eight are all, or each is looked at.
+-- `compare::same_bytes` meets its contract: the first eight and the last eight are all, or each is looked at.
 -- Assumes nothing.
 use mathlib.Core.Path.{sym, ap, ap₂, _∙_}
 use Prim.Native.Nat.{_-_, _≤_}
@@ -8,10 +8,10 @@ use borrow.Author.Tests.{ltb-false}
 use denote.Ref.{now}
 use lib.ListN.{length, length-drop}
 use lib.Seq.{length-take-le}
-use Rattle.peek.specs.Same.{same}
-use Rattle.peek.proofs.Compare.{same-lengths, same-ends}
-use Rattle.peek.proofs.bytes.same_bytes.Statement.{statement}
-use Rattle.peek.proofs.bytes.same_bytes.Tie as tie
+use Rattle.compare.specs.Same.{same}
+use Rattle.compare.proofs.Compare.{same-lengths, same-ends}
+use Rattle.compare.proofs.same.same_bytes.Statement.{statement}
+use Rattle.compare.proofs.same.same_bytes.Tie as tie
 
 returns : tie.Need-returns
 returns c = sym (same-lengths _ _ (c .if1 .taken))

@@ -1,4 +1,4 @@
--- `peek::eight_same` meets its contract. The loop's invariant: whether the bytes from i on are the same.
+-- `compare::eight_same` meets its contract. The loop's invariant: whether the bytes from i on are the same.
 -- Assumes nothing.
 use mathlib.Core.Path.{_≡_, sym, _∙_}
 use Prim.Native.Nat.{_≤_}
@@ -6,10 +6,10 @@ use native.Mathlib.Omega.{arith}
 use borrow.Author.Needs.{needs}
 use lib.ListN.{drop}
 use denote.Ref.{now}
-use Rattle.peek.specs.Same.{same}
-use Rattle.peek.proofs.Compare.{same-down, same-end}
-use Rattle.peek.proofs.bytes.eight_same.Statement.{statement}
-use Rattle.peek.proofs.bytes.eight_same.Tie as tie
+use Rattle.compare.specs.Same.{same}
+use Rattle.compare.proofs.Compare.{same-down, same-end}
+use Rattle.compare.proofs.same.eight_same.Statement.{statement}
+use Rattle.compare.proofs.same.eight_same.Tie as tie
 
 abbrev Inv-loop : tie.InvT-loop
 Inv-loop a b all₀ i₀ all i = (i ≤ 8) × (all ≡ same (drop i a) (drop i b))

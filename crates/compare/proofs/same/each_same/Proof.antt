@@ -1,14 +1,14 @@
--- `peek::each_same` meets its contract: what the bytes from i on say is what all of them say.
+-- `compare::each_same` meets its contract: what the bytes from i on say is what all of them say.
 -- Assumes nothing.
 use mathlib.Core.Path.{_≡_, sym, _∙_}
 use Prim.Native.Nat.{_≤_, _-_}
 use native.Mathlib.Omega.{arith}
 use borrow.Author.Needs.{needs}
 use lib.ListN.{length, drop}
-use Rattle.peek.specs.Same.{same}
-use Rattle.peek.proofs.Compare.{same-more, same-differ, same-end}
-use Rattle.peek.proofs.bytes.each_same.Statement.{statement}
-use Rattle.peek.proofs.bytes.each_same.Tie as tie
+use Rattle.compare.specs.Same.{same}
+use Rattle.compare.proofs.Compare.{same-more, same-differ, same-end}
+use Rattle.compare.proofs.same.each_same.Statement.{statement}
+use Rattle.compare.proofs.same.each_same.Tie as tie
 
 abbrev Inv-loop : tie.InvT-loop
 Inv-loop a b i₀ i = (i ≤ length a) × (same a b ≡ same (drop i a) (drop i b))
