@@ -110,3 +110,13 @@ lines-not (suc n) f h =
     let bit = h 0 in
     let rest = from-lines-lt n (λ i. f (suc i)) (λ i. h (suc i)) in
     omega (arith, two-pow-succ n)
+
+-- each line of a number that was made from its lines
+pub line-from : (n : ℕ) (f : ℕ → ℕ) → ((i : ℕ) → f i < 2) → (i : ℕ) → i < n → line (fromLines n f) i ≡ f i
+unfolding fromLines
+line-from zero f h i l = absurd (omega arith)
+line-from (suc n) f h zero l = line-zero (fromLines n (λ i. f (suc i)) * 2 + f 0) ∙ omega (arith, h 0)
+line-from (suc n) f h (suc i) l =
+    let rest = fromLines n (λ i. f (suc i)) in
+    let half : (rest * 2 + f 0) / 2 ≡ rest = omega (arith, h 0) in
+    line-half (rest * 2 + f 0) i ∙ ap (λ (x : ℕ). line x i) half ∙ line-from n (λ i. f (suc i)) (λ i. h (suc i)) i (omega arith)

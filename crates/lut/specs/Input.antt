@@ -1,6 +1,7 @@
 -- What a description is asked with, whatever its kind.
 use mathlib.Core.Bool.{Bool, false}
 use Prim.Native.Nat.{ℕ, _^_, _<_}
+use Rattle.lut.specs.Table.{oneIf}
 use Rattle.lut.specs.declared.Input.{Input}
 use Rattle.lut.specs.declared.Input.the-variants.{Nothing, Sample, Samples, Sources}
 
@@ -31,3 +32,14 @@ onSources f Nothing = false
 onSources f (Sample s) = false
 onSources f (Samples earlier later) = false
 onSources f (Sources s) = f s
+
+-- what a hit shows, 1, and what a miss shows, 0 [G16]
+abbrev pub inNumbers : (Input → Bool) → Input → ℕ
+inNumbers f i = oneIf (f i)
+
+-- what is shown by a kind that is asked with nothing; on every other input it shows 0 [G16]
+abbrev pub onNothing : ℕ → Input → ℕ
+onNothing n Nothing = n
+onNothing n (Sample s) = 0
+onNothing n (Samples earlier later) = 0
+onNothing n (Sources s) = 0

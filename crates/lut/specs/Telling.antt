@@ -1,6 +1,5 @@
--- What it is to hit alike and to be told apart, for two descriptions of one kind given by their rules of a hit. Hit
--- alike, tell apart and telling sample are the buyer's terms.
-use mathlib.Core.Bool.{Bool}
+-- What it is to hit alike and to be told apart, for two descriptions of one kind given by what they show on an input: a
+-- detector whether it hits, a state its word. Hit alike, tell apart and telling sample are the buyer's terms.
 use mathlib.Core.Path.{_≡_}
 use Prim.Native.Nat.{ℕ, _<_}
 use Rattle.lut.specs.declared.Input.{Input}
@@ -9,28 +8,28 @@ use Rattle.lut.specs.declared.Telling.{Telling}
 use Rattle.lut.specs.declared.Telling.the-variants.{Alike, Apart}
 use Rattle.lut.specs.Input.{Fits}
 
--- the two hit alike on every input: what is promised of equal chain words [G6, D3.1, D3.2, D3.3]
-abbrev pub HitAlike : (f g : Input → Bool) → Type 0
+-- the two hit alike on every input: what is promised of equal chain words [G6, G16, D3.1, D3.2, D3.3]
+abbrev pub HitAlike : {A : Type 0} (f g : Input → A) → Type 0
 HitAlike f g = (i : Input) → Fits i → f i ≡ g i
 
--- on this input one hits and the other misses: it is a telling sample [G7, G8, D3.6]
-pub record TellsApart (f g : Input → Bool) (i : Input) : Type 0 where
+-- on this input one hits and the other misses: it is a telling sample [G7, G8, G16, D3.6]
+pub record TellsApart {A : Type 0} (f g : Input → A) (i : Input) : Type 0 where
   pub fits : Fits i
   pub tells : f i ≡ g i → ⊥
 
 -- what an answer says of two descriptions: no input tells them apart, or this one does [N6, D3.5]
-abbrev pub Says : (f g : Input → Bool) → Telling → Type 0
+abbrev pub Says : {A : Type 0} (f g : Input → A) → Telling → Type 0
 Says f g Alike = HitAlike f g
 Says f g (Apart i) = TellsApart f g i
 
 -- no lesser sample tells them apart; asked of one sample only [N9, D3.7]
-abbrev pub NoneLess : (f g : Input → Bool) → Input → Type 0
+abbrev pub NoneLess : {A : Type 0} (f g : Input → A) → Input → Type 0
 NoneLess f g Nothing = Unit
 NoneLess f g (Sample s) = (r : ℕ) → r < s → f (Sample r) ≡ g (Sample r)
 NoneLess f g (Samples earlier later) = Unit
 NoneLess f g (Sources s) = Unit
 
 -- what an answer that shows the least sample says besides [N9, D3.7]
-abbrev pub Least : (f g : Input → Bool) → Telling → Type 0
+abbrev pub Least : {A : Type 0} (f g : Input → A) → Telling → Type 0
 Least f g Alike = Unit
 Least f g (Apart i) = NoneLess f g i

@@ -7,7 +7,7 @@ use native.Mathlib.Numerals.{add-one}
 use lib.Dec.{lit<}
 use lib.ListN.{length, getD, take, drop, length-append, length-drop, drop-of-length-le, take-append-drop}
 use lib.Seq.{drop-drop, drop-cons}
-use Rattle.peek.specs.Bytes.{Bytes, u32At, u32Bytes}
+use Rattle.peek.specs.Bytes.{Bytes, u32At, u32Bytes, bytesFrom}
 use Rattle.peek.specs.Fields.{fieldOf, fieldBytes, fieldsFrom}
 use Rattle.peek.proofs.Numbers.{bytes-nil, bytes-append, bytes-drop, bytes-u32, u32-drop, u32-behind, u32-read, u32-written}
 
@@ -51,6 +51,13 @@ fields-from ns i h = rw (add-one, drop-cons ns i 0)
 pub fields-end : (ns : List ℕ) (i : ℕ) → length ns ≤ i → fieldBytes (drop i ns) ≡ []
 unfolding fieldBytes
 fields-end ns i h = rw (drop-of-length-le ns {i = i} h)
+
+-- bytes that are there, one by one, are the part that they make
+pub bytes-taken : (n i : ℕ) (s : List ℕ) → i + n ≤ length s → bytesFrom n i s ≡ take n (drop i s)
+bytes-taken zero i s h = refl
+bytes-taken (suc n) i s h =
+    ap (λ (xs : List ℕ). getD s i 0 ∷ xs) (bytes-taken n (i + 1) s (omega arith))
+    ∙ sym (ap (take (suc n)) (drop-cons s i 0 (omega arith)) ∙ ap (λ (j : ℕ). getD s i 0 ∷ take n (drop j s)) (sym (add-one i)))
 
 -- numbers of 32 bits
 pub fit₂ : (x y : ℕ) → x < 2 ^ 32 → y < 2 ^ 32 → (i : ℕ) → getD (x ∷ y ∷ []) i 0 < 2 ^ 32

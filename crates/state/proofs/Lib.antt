@@ -1,0 +1,4 @@
+pub mod Bits
+pub mod ReadingBack
+pub mod Theorems
+pub mod Ways

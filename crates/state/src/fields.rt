@@ -1,0 +1,25 @@
+// Which states are accepted.
+ghost use mathlib.Core.Path.{_≡_};
+ghost use Rattle.state.specs.Fields.{fits};
+use crate::State;
+
+// The greatest number, else state and flag.
+const NUMBER_LAST: u32 = 0xf_ffff;
+
+const STATE_LAST: u8 = 15;
+
+const FLAG_LAST: u8 = 1;
+
+// Whether each field fits its bits.
+pub(crate) fn fields_fit(s: State) -> bool
+    ensures { λ r. ⌜ r ≡ fits s ⌝ }
+{
+    if NUMBER_LAST < s.number {
+        return false;
+    }
+    if STATE_LAST < s.branch {
+        return false;
+    }
+    let flags = s.flags;
+    compare::all_within(0, FLAG_LAST, &flags)
+}
