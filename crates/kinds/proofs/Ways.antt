@@ -13,8 +13,10 @@ use Rattle.peek.specs.Bytes.{Bytes}
 use Rattle.peek.specs.Fields.{fieldOf, Writes}
 use Rattle.peek.proofs.Numbers.{u32-small}
 use mathlib.Core.Logic.{_↔_}
+use Rattle.lut.specs.Input.{inNumbers}
 use Rattle.lut.specs.Telling as lut
 use Rattle.lut.specs.Telling.{HitAlike}
+use Rattle.lut.proofs.Asked.{alike-in-numbers, apart-in-numbers}
 use Rattle.lut.specs.declared.Input.{Input}
 use Rattle.lut.specs.declared.Telling.{Telling}
 use Rattle.lut.specs.declared.Telling.the-variants as Telling
@@ -29,10 +31,11 @@ use Rattle.edge.specs.Description as edge
 use Rattle.edge.proofs.Ways as edge-ways
 use Rattle.edge.proofs.Theorems as edge-theorems
 use Rattle.sum.proofs.Ways as sum-ways
+use Rattle.state.proofs.Ways as state-ways
 use Rattle.kinds.specs.declared.Change.{Change}
 use Rattle.kinds.specs.declared.Change.the-variants.{Oper, Word, Altr}
 use Rattle.kinds.specs.Change.{told, Says}
-use Rattle.kinds.specs.Table.{Kind, termKind, rangeKind, edgeKind, sections, kindOf, mostOf, descriptionSize, descriptionFault, Accepted, addressOf, chainCount, chainLength, wordsOf, descriptionRead, cutDescription, hitOf, changeOf, lengthsOf, pieces, chainsOf}
+use Rattle.kinds.specs.Table.{Kind, termKind, rangeKind, edgeKind, stateKind, sections, kindOf, mostOf, descriptionSize, descriptionFault, Accepted, addressOf, chainCount, chainLength, wordsOf, descriptionRead, cutDescription, showsOf, changeOf, lengthsOf, pieces, chainsOf}
 use Rattle.kinds.proofs.Rows.{of-kind, of-any, at-most, size-positive}
 
 -- ---- words and chains
@@ -42,7 +45,7 @@ pub words-count : (k : ℕ) (d : List ℕ) → length (wordsOf k d) ≡ chainCou
 unfolding wordsOf chainCount chainLength
 words-count k d =
     of-any (λ x. length (x .words d) ≡ x .chains * x .each)
-    (term-ways.words-count d, (range-ways.words-count d, (edge-ways.words-count d, (sum-ways.words-count d, tt)))) refl k
+    (term-ways.words-count d, (range-ways.words-count d, (edge-ways.words-count d, (sum-ways.words-count d, (state-ways.words-count d, tt))))) refl k
 
 -- and never more than 32
 pub words-few : (k : ℕ) (d : List ℕ) → length (wordsOf k d) ≤ 32
@@ -80,14 +83,14 @@ pub cut-whole : (k : ℕ) → k < sections → (d : List ℕ) → length d ≡ d
 unfolding descriptionSize cutDescription
 cut-whole k h =
     of-kind (λ x. (d : List ℕ) → length d ≡ x .size → length (x .cut d) ≡ x .size)
-    (term-ways.cut-whole, ((λ d l. l), ((λ d l. l), ((λ d l. l), tt)))) k h
+    (term-ways.cut-whole, ((λ d l. l), ((λ d l. l), ((λ d l. l), ((λ d l. l), tt))))) k h
 
 pub back : (k : ℕ) → k < sections → (d : List ℕ) → Bytes d → length d ≡ descriptionSize k → descriptionFault k d ≡ 0
     → descriptionRead k (wordsOf k d) ≡ cutDescription k d
 unfolding descriptionSize descriptionFault descriptionRead wordsOf cutDescription
 back k h =
     of-kind (λ x. (d : List ℕ) → Bytes d → length d ≡ x .size → x .fault d ≡ 0 → x .back (x .words d) ≡ x .cut d)
-    (term-ways.back-words, (range-ways.back-words, (edge-ways.back-words, (sum-ways.back-words, tt)))) k h
+    (term-ways.back-words, (range-ways.back-words, (edge-ways.back-words, (sum-ways.back-words, (state-ways.back-words, tt))))) k h
 
 -- d is a description of section k without fault, and its words are ws
 pub record Described (k : ℕ) (ws d : List ℕ) : Type 0 where
@@ -106,7 +109,7 @@ unfolding descriptionRead
 exactly k h ws p =
     described k ws (kindOf k .back ws)
     (of-kind (λ x. (ws : List ℕ) → 0 < length (x .back ws) → Writes (x .size) (x .fault) (x .words) ws (x .back ws))
-    (term-ways.back-writes, (range-ways.back-writes, (edge-ways.back-writes, (sum-ways.back-writes, tt)))) k h ws p)
+    (term-ways.back-writes, (range-ways.back-writes, (edge-ways.back-writes, (sum-ways.back-writes, (state-ways.back-writes, tt))))) k h ws p)
 
 -- words are refused exactly where no accepted description writes them
 pub refused : (k : ℕ) → k < sections → (ws d : List ℕ) → length (descriptionRead k ws) ≡ 0 → Described k ws d → ⊥
@@ -126,46 +129,71 @@ faultless-iff-accepted zero h = term-ways.faultless-iff
 faultless-iff-accepted (suc zero) h = range-ways.faultless-iff
 faultless-iff-accepted (suc (suc zero)) h = edge-ways.faultless-iff
 faultless-iff-accepted (suc (suc (suc zero))) h = sum-ways.faultless-iff
-faultless-iff-accepted (suc (suc (suc (suc k)))) h = absurd (omega arith)
+faultless-iff-accepted (suc (suc (suc (suc zero)))) h = state-ways.faultless-iff
+faultless-iff-accepted (suc (suc (suc (suc (suc k))))) h = absurd (omega arith)
 
 -- ---- what a change says
 
-told-says : (f g : Input → Bool) (t : Telling) → lut.Says f g t → Says f g (told t)
-told-says f g Telling.Alike h = h
-told-says f g (Telling.Apart i) h = h
+told-says : (f g : Input → Bool) (t : Telling) → lut.Says f g t → Says (inNumbers f) (inNumbers g) (told t)
+told-says f g Telling.Alike h = alike-in-numbers f g .1 h
+told-says f g (Telling.Apart i) h = apart-in-numbers f g i .1 h
+
+-- two descriptions of one kind, without fault, whose bytes differ
+pub record Changed (x : Kind) (d e : List ℕ) : Type 0 where
+  pub old-bytes : Bytes d
+  pub new-bytes : Bytes e
+  pub old-whole : length d ≡ x .size
+  pub new-whole : length e ≡ x .size
+  pub old-faultless : x .fault d ≡ 0
+  pub new-faultless : x .fault e ≡ 0
+  pub differ : d ≡ e → ⊥
 
 abbrev ChangeSays : Kind → Type 0
-ChangeSays x = (d e : List ℕ) → Bytes d → Bytes e → x .fault d ≡ 0 → x .fault e ≡ 0 → Says (x .hit d) (x .hit e) (x .change d e)
+ChangeSays x = (d e : List ℕ) → Changed x d e → Says (x .shows d) (x .shows e) (x .change d e)
 
 term-change : ChangeSays termKind
 unfolding term.telling
-term-change d e bd be fd fe =
-    told-says _ _ (term.telling d e) (term-theorems.telling-says (term.fromBytes d) (term.fromBytes e) (term-ways.accepted d bd fd) (term-ways.accepted e be fe))
+term-change d e c =
+    told-says _ _ (term.telling d e)
+    (term-theorems.telling-says (term.fromBytes d) (term.fromBytes e) (term-ways.accepted d (c .old-bytes) (c .old-faultless))
+    (term-ways.accepted e (c .new-bytes) (c .new-faultless)))
 
 range-change : ChangeSays rangeKind
 unfolding range-telling.telling
-range-change d e bd be fd fe =
+range-change d e c =
     told-says _ _ (range-telling.telling d e)
-    (range-theorems.telling-says (range.fromBytes d) (range.fromBytes e) (range-ways.accepted d bd fd) (range-ways.accepted e be fe))
+    (range-theorems.telling-says (range.fromBytes d) (range.fromBytes e) (range-ways.accepted d (c .old-bytes) (c .old-faultless))
+    (range-ways.accepted e (c .new-bytes) (c .new-faultless)))
 
 edge-change : ChangeSays edgeKind
 unfolding edge.telling
-edge-change d e bd be fd fe =
-    told-says _ _ (edge.telling d e) (edge-theorems.telling-says (edge.fromBytes d) (edge.fromBytes e) (edge-ways.accepted d bd fd) (edge-ways.accepted e be fe))
+edge-change d e c =
+    told-says _ _ (edge.telling d e)
+    (edge-theorems.telling-says (edge.fromBytes d) (edge.fromBytes e) (edge-ways.accepted d (c .old-bytes) (c .old-faultless))
+    (edge-ways.accepted e (c .new-bytes) (c .new-faultless)))
+
+state-change : ChangeSays stateKind
+state-change d e c =
+    record {
+      fits = tt;
+      tells =
+          λ q.
+          c .differ
+          (state-ways.words-differ d e (c .old-bytes) (c .new-bytes) (c .old-whole) (c .new-whole) (c .old-faultless) (c .new-faultless) q);
+    }
 
 -- ALTR with an input that tells the two apart, WORD where none does, of every section: no notice may say either each
 -- time [D3.5, D3.6, K4]
-pub change-says : (k : ℕ) → k < sections → (d e : List ℕ) → Bytes d → Bytes e → descriptionFault k d ≡ 0 → descriptionFault k e ≡ 0
-    → Says (hitOf k d) (hitOf k e) (changeOf k d e)
-unfolding descriptionFault hitOf changeOf
-change-says k h = of-kind ChangeSays (term-change, (range-change, (edge-change, ((λ d e bd be fd fe. tt), tt)))) k h
+pub change-says : (k : ℕ) → k < sections → (d e : List ℕ) → Changed (kindOf k) d e → Says (showsOf k d) (showsOf k e) (changeOf k d e)
+unfolding showsOf changeOf
+change-says k h = of-kind ChangeSays (term-change, (range-change, (edge-change, ((λ d e c. tt), (state-change, tt))))) k h
 
 -- a change is WORD exactly where no input tells, and carries an input that tells otherwise; unless it is OPER
-pub word-iff-alike : (k : ℕ) → k < sections → (d e : List ℕ) → Bytes d → Bytes e → descriptionFault k d ≡ 0 → descriptionFault k e ≡ 0
-    → (changeOf k d e ≡ Oper → ⊥) → (changeOf k d e ≡ Word) ↔ HitAlike (hitOf k d) (hitOf k e)
-word-iff-alike k h d e bd be fd fe = go (changeOf k d e) (change-says k h d e bd be fd fe)
+pub word-iff-alike : (k : ℕ) → k < sections → (d e : List ℕ) → Changed (kindOf k) d e
+    → (changeOf k d e ≡ Oper → ⊥) → (changeOf k d e ≡ Word) ↔ HitAlike (showsOf k d) (showsOf k e)
+word-iff-alike k h d e differ = go (changeOf k d e) (change-says k h d e differ)
   where
-    go : (c : Change) → Says (hitOf k d) (hitOf k e) c → (c ≡ Oper → ⊥) → (c ≡ Word) ↔ HitAlike (hitOf k d) (hitOf k e)
+    go : (c : Change) → Says (showsOf k d) (showsOf k e) c → (c ≡ Oper → ⊥) → (c ≡ Word) ↔ HitAlike (showsOf k d) (showsOf k e)
     go Oper s n = absurd (n refl)
     go Word s n = ((λ _. s), (λ _. refl))
     go (Altr i) s n = ((λ q. let z : _≡_ {A = ℕ} 0 1 = cc in absurd (omega arith)), (λ alike. absurd (s .tells (alike i (s .fits)))))
@@ -175,5 +203,5 @@ word-iff-alike k h d e bd be fd fe = go (changeOf k d e) (change-says k h d e bd
 pub words-fit : (k : ℕ) (d : List ℕ) (i : ℕ) → getD (wordsOf k d) i 0 < 2 ^ 32
 unfolding wordsOf
 words-fit k d =
-    of-any (λ x. (i : ℕ) → getD (x .words d) i 0 < 2 ^ 32) (term-ways.words-fit d, (range-ways.words-fit d, (edge-ways.words-fit d, (sum-ways.words-fit d, tt))))
+    of-any (λ x. (i : ℕ) → getD (x .words d) i 0 < 2 ^ 32) (term-ways.words-fit d, (range-ways.words-fit d, (edge-ways.words-fit d, (sum-ways.words-fit d, (state-ways.words-fit d, tt)))))
     (λ i. lit< tt) k

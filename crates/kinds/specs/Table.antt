@@ -1,7 +1,7 @@
 -- The table of sections: the only place that knows how many kinds of record there are, and what each has. A section is
 -- known by its number; what one has and another has not is a field of its row.
 use Prim.Native.Nat.{ℕ, zero, suc, _+_, _*_}
-use mathlib.Core.Bool.{Bool, false, cond}
+use mathlib.Core.Bool.{cond}
 use mathlib.Core.List.{List, [], _∷_}
 use lib.Dec.{eqb, ltb}
 use lib.ListN.{length, getD, take, drop, replicate}
@@ -16,10 +16,15 @@ use Rattle.sum.specs.Description as sum
 use Rattle.sum.specs.Operation as sum-rule
 use Rattle.sum.specs.Model as sum-model
 use Rattle.sum.specs.Address.{sumAddress}
+use Rattle.state.specs.Description as state
+use Rattle.state.specs.Fields as state-rule
+use Rattle.state.specs.Words as state-words
+use Rattle.lut.specs.Input.{inNumbers, onNothing}
 use Rattle.lut.specs.declared.Input.{Input}
+use Rattle.lut.specs.declared.Input.the-variants.{Nothing}
 use Rattle.kinds.specs.declared.Row.{Row}
 use Rattle.kinds.specs.declared.Change.{Change}
-use Rattle.kinds.specs.declared.Change.the-variants.{Oper}
+use Rattle.kinds.specs.declared.Change.the-variants.{Oper, Altr}
 use Rattle.kinds.specs.Change.{told}
 
 -- what each kind has, a row of the table of sections [S13]
@@ -39,8 +44,8 @@ pub record Kind : Type 0 where
   pub words : List ℕ → List ℕ
   pub back : List ℕ → List ℕ
   pub cut : List ℕ → List ℕ
-  -- when a description hits, and what is found of two whose bytes differ
-  pub hit : List ℕ → Input → Bool
+  -- what a description shows on an input, and what is found of two whose bytes differ
+  pub shows : List ℕ → Input → ℕ
   pub change : List ℕ → List ℕ → Change
 
 -- the number of the section that holds terms [S1]
@@ -59,6 +64,10 @@ EDGES = 2
 abbrev pub SUMS : ℕ
 SUMS = 3
 
+-- the number of the section that holds states [S1]
+abbrev pub STATES : ℕ
+STATES = 4
+
 -- terms: TERM, at most 10, address 0x20 + slot, one chain of four words [S1, W4, N3, G3]
 abbrev pub termKind : Kind
 termKind =
@@ -73,7 +82,7 @@ termKind =
       words = term.words;
       back = term.back;
       cut = term.cut;
-      hit = λ d. term-rule.hit (term.fromBytes d);
+      shows = λ d. inNumbers (term-rule.hit (term.fromBytes d));
       change = λ old new. told (term.telling old new);
     }
 
@@ -91,7 +100,7 @@ rangeKind =
       words = range.words;
       back = range.back;
       cut = λ d. d;
-      hit = λ d. range-rule.hit (range.fromBytes d);
+      shows = λ d. inNumbers (range-rule.hit (range.fromBytes d));
       change = λ old new. told (range-telling.telling old new);
     }
 
@@ -109,7 +118,7 @@ edgeKind =
       words = edge.words;
       back = edge.back;
       cut = λ d. d;
-      hit = λ d. edge-rule.hit (edge.fromBytes d);
+      shows = λ d. inNumbers (edge-rule.hit (edge.fromBytes d));
       change = λ old new. told (edge.telling old new);
     }
 
@@ -127,11 +136,30 @@ sumKind =
       words = sum.words;
       back = sum.back;
       cut = λ d. d;
-      hit = λ d. sum-model.hit (sum.fromBytes d);
+      shows = λ d. inNumbers (sum-model.hit (sum.fromBytes d));
       change = λ old new. Oper;
     }
 
--- a section that no sheet has: no records, no words, never a hit [S13]
+-- states: STAT, at most 16, address the slot, one chain of one word; their change is ALTR without an input
+-- [S1, W19, N3, N6, N8]
+abbrev pub stateKind : Kind
+stateKind =
+    record {
+      name = 83 ∷ 84 ∷ 65 ∷ 84 ∷ [];
+      most = 16;
+      size = state.size;
+      fault = state.fault;
+      address = λ slot. slot;
+      chains = 1;
+      each = 1;
+      words = state.words;
+      back = state.back;
+      cut = λ d. d;
+      shows = λ d. onNothing (state-words.wordOf (state.fromBytes d));
+      change = λ old new. Altr Nothing;
+    }
+
+-- a section that no sheet has: no records, no words, and it shows 0 [S13]
 abbrev pub noKind : Kind
 noKind =
     record {
@@ -145,13 +173,13 @@ noKind =
       words = λ d. [];
       back = λ ws. [];
       cut = λ d. d;
-      hit = λ d i. false;
+      shows = λ d i. 0;
       change = λ old new. Oper;
     }
 
 -- THE TABLE, by section number [S1, S13]
 abbrev pub kinds : List Kind
-kinds = termKind ∷ rangeKind ∷ edgeKind ∷ sumKind ∷ []
+kinds = termKind ∷ rangeKind ∷ edgeKind ∷ sumKind ∷ stateKind ∷ []
 
 -- how many sections a sheet has [S1]
 abbrev pub sections : ℕ
@@ -175,11 +203,12 @@ mostOf k = kindOf k .most
 unfoldable pub descriptionSize : ℕ → ℕ
 descriptionSize k = kindOf k .size
 
--- the first fault of a description of section k, by refusal number; 0 is none [F6, F7, F8, F9, F10, O1]
+-- the first fault of a description of section k, by refusal number; 0 is none
+-- [F6, F7, F8, F9, F10, F18, O1]
 unfoldable pub descriptionFault : ℕ → List ℕ → ℕ
 descriptionFault k d = kindOf k .fault d
 
--- the address of the first chain of the item in a slot of section k [W4, W6, W11, W14]
+-- the address of the first chain of the item in a slot of section k [W4, W6, W11, W14, W19]
 unfoldable pub addressOf : (k slot : ℕ) → ℕ
 addressOf k slot = kindOf k .address slot
 
@@ -187,7 +216,7 @@ addressOf k slot = kindOf k .address slot
 unfoldable pub chainCount : ℕ → ℕ
 chainCount k = kindOf k .chains
 
--- how many words each chain of section k has [W4, W6, W11, W14]
+-- how many words each chain of section k has [W4, W6, W11, W14, W19]
 unfoldable pub chainLength : ℕ → ℕ
 chainLength k = kindOf k .each
 
@@ -203,9 +232,10 @@ descriptionRead k ws = kindOf k .back ws
 unfoldable pub cutDescription : (k : ℕ) (d : List ℕ) → List ℕ
 cutDescription k d = kindOf k .cut d
 
--- when a description of section k hits on an input [G5, P1, P5, P8, M8]
-unfoldable pub hitOf : (k : ℕ) (d : List ℕ) → Input → Bool
-hitOf k d = kindOf k .hit d
+-- what a description of section k shows on an input: 1 for a hit, 0 for a miss; a state, on nothing, its word
+-- [G5, G16, P1, P5, P8, M8, W19]
+unfoldable pub showsOf : (k : ℕ) (d : List ℕ) → Input → ℕ
+showsOf k d = kindOf k .shows d
 
 -- computed: what is found of two descriptions whose bytes differ; what it means is theorem change-says [B6, N6, N10]
 unfoldable pub changeOf : (k : ℕ) (old new : List ℕ) → Change
@@ -217,7 +247,8 @@ Accepted zero d = term-rule.Accepted (term.fromBytes d)
 Accepted (suc zero) d = range-rule.Accepted (range.fromBytes d)
 Accepted (suc (suc zero)) d = edge-rule.Accepted (edge.fromBytes d)
 Accepted (suc (suc (suc zero))) d = sum-rule.Accepted (sum.fromBytes d)
-Accepted (suc (suc (suc (suc k)))) d = ⊥
+Accepted (suc (suc (suc (suc zero)))) d = state-rule.Accepted (state.fromBytes d)
+Accepted (suc (suc (suc (suc (suc k))))) d = ⊥
 
 -- ---- what follows from them
 
@@ -225,7 +256,7 @@ Accepted (suc (suc (suc (suc k)))) d = ⊥
 abbrev pub rowOf : ℕ → Row
 rowOf k = record { name = nameOf k; most = mostOf k; size = descriptionSize k; chains = chainCount k; each = chainLength k }
 
--- how many words each chain of section k's items has [W4, W6, W11, W14]
+-- how many words each chain of section k's items has [W4, W6, W11, W14, W19]
 unfoldable pub lengthsOf : (k : ℕ) → List ℕ
 lengthsOf k = replicate (chainCount k) (chainLength k)
 
@@ -242,7 +273,7 @@ chainsOf k d = pieces (lengthsOf k) (wordsOf k d)
 
 -- the sections in the order in which they are sent; theorem address-later has it that addresses rise [W17]
 abbrev pub sendingOrder : List ℕ
-sendingOrder = TERMS ∷ RANGES ∷ EDGES ∷ SUMS ∷ []
+sendingOrder = STATES ∷ TERMS ∷ RANGES ∷ EDGES ∷ SUMS ∷ []
 
 -- ---- the way back from an address to the section and the slot whose item is sent there
 

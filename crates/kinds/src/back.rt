@@ -5,6 +5,7 @@ use crate::EDGES;
 use crate::Place;
 use crate::RANGES;
 use crate::SECTIONS;
+use crate::STATES;
 use crate::SUMS;
 use crate::TERMS;
 
@@ -20,6 +21,10 @@ pub fn place_at(address: u32) -> Place
     ensures { λ r. ⌜ (r .section ≡ sectionAt address) × (r .slot ≡ slotAt (sectionAt address) address) ⌝ }
 {
     match address {
+        0x00..=0x0F => Place {
+            section: STATES,
+            slot: address as u8,
+        },
         0x20..=0x29 => Place {
             section: TERMS,
             slot: (address - 0x20) as u8,

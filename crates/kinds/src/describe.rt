@@ -6,9 +6,11 @@ ghost use Rattle.kinds.specs.Table.{descriptionFault, wordsOf, descripti
 use crate::Change;
 use crate::EDGES;
 use crate::RANGES;
+use crate::STATES;
 use crate::SUMS;
 use crate::TERMS;
 use buffer::Outcome;
+use lut::Input;
 use lut::Telling;
 
 // The first fault of a description in a section, 0 if it has none.
@@ -20,6 +22,7 @@ pub fn fault(section: usize, bytes: &[u8]) -> u8
         RANGES => range::fault(bytes),
         EDGES => edge::fault(bytes),
         SUMS => sum::fault(bytes),
+        STATES => state::fault(bytes),
         _ => 0,
     }
 }
@@ -33,6 +36,7 @@ pub fn put_words(out: &mut [u32], section: usize, d: &[u8]) -> Outcome
         RANGES => range::put_words(out, d),
         EDGES => edge::put_words(out, d),
         SUMS => sum::put_words(out, d),
+        STATES => state::put_words(out, d),
         _ => Outcome::Done(0),
     }
 }
@@ -46,6 +50,7 @@ pub fn put_back(out: &mut [u8], section: usize, words: &[u32]) -> Outcome
         RANGES => range::put_back(out, words),
         EDGES => edge::put_back(out, words),
         SUMS => sum::put_back(out, words),
+        STATES => state::put_back(out, words),
         _ => Outcome::Done(0),
     }
 }
@@ -69,6 +74,7 @@ pub fn change_of(section: usize, old: &[u8], new: &[u8]) -> Change
         RANGES => told_change(range_telling::telling_of(old, new)),
         EDGES => told_change(edge::telling_of(old, new)),
         SUMS => Change::Oper,
+        STATES => Change::Altr(Input::Nothing),
         _ => Change::Oper,
     }
 }

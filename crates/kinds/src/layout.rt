@@ -4,6 +4,7 @@ ghost use Rattle.kinds.specs.Table.{rowOf, chainCount, chainLength, addr
 use crate::EDGES;
 use crate::RANGES;
 use crate::Row;
+use crate::STATES;
 use crate::SUMS;
 use crate::TERMS;
 
@@ -39,6 +40,14 @@ const SUM: Row = Row {
     each: 6,
 };
 
+const STATE: Row = Row {
+    name: *b"STAT",
+    most: 16,
+    size: 13,
+    chains: 1,
+    each: 1,
+};
+
 const NONE: Row = Row {
     name: [0; 4],
     most: 0,
@@ -55,6 +64,7 @@ pub fn row_of(section: usize) -> Row
         RANGES => RANGE,
         EDGES => EDGE,
         SUMS => SUM,
+        STATES => STATE,
         _ => NONE,
     }
 }
@@ -84,6 +94,7 @@ pub fn address(section: usize, slot: u8) -> u32
         RANGES => 0x30 + 2 * slot as u32,
         EDGES => 0x34 + slot as u32,
         SUMS => sum::sum_address(slot),
+        STATES => slot as u32,
         _ => 0,
     }
 }

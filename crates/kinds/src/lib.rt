@@ -1,6 +1,6 @@
 // The table of sections: the only place that knows how many kinds of record there are. Each question has one answer for each kind.
 // Promises: each call equals its column of the table in specs/, for any section number and any bytes.
-// Rests on: the kinds, each in its crate (term, range with range_telling, edge, sum).
+// Rests on: the kinds, each in its crate (term, range with range_telling, edge, sum, state).
 mod back;
 mod describe;
 mod layout;
@@ -24,10 +24,12 @@ pub const EDGES: usize = 2;
 
 pub const SUMS: usize = 3;
 
-pub const SECTIONS: usize = 4;
+pub const STATES: usize = 4;
 
-// The sections in the order in which they are sent: by rising address.
-pub const SENDING_ORDER: [usize; SECTIONS] = [TERMS, RANGES, EDGES, SUMS];
+pub const SECTIONS: usize = 5;
+
+// The sections in the order in which they are sent: by rising address, so that the sheet's last goes first.
+pub const SENDING_ORDER: [usize; SECTIONS] = [STATES, TERMS, RANGES, EDGES, SUMS];
 
 // The most words that a description has.
 pub const MOST_WORDS: usize = 32;
@@ -57,6 +59,6 @@ pub enum Change {
     Oper,
     // No input tells the two apart.
     Word,
-    // This input tells them apart.
+    // This input tells them apart; of two states, which are asked with nothing, a field differs.
     Altr(lut::Input),
 }

@@ -44,7 +44,11 @@ returns-4 c = rw (c .match .keys4)
 
 returns-5 : tie.Need-returns-5
 unfolding changeOf kindOf
-returns-5 c = rw (past (c .before .before .before .args .section) (omega (arith, c .match .rest)))
+returns-5 c = rw (c .match .keys5)
+
+returns-6 : tie.Need-returns-6
+unfolding changeOf kindOf
+returns-6 c = rw (past (c .before .before .before .args .section) (omega (arith, c .match .rest)))
 
 pub change-of-spec : {M : Type 1} → statement M
 change-of-spec =
@@ -60,4 +64,5 @@ change-of-spec =
     returns-2
     returns-3
     returns-4
-    returns-5)
+    returns-5
+    returns-6)

@@ -20,6 +20,9 @@ put-words-requires-3 c κs = search needs
 put-words-requires-4 : tie.Need-put-words-requires-4
 put-words-requires-4 c κs = search needs
 
+put-words-requires-5 : tie.Need-put-words-requires-5
+put-words-requires-5 c κs = search needs
+
 same-length : tie.Need-same-length
 same-length c = search needs
 
@@ -48,9 +51,16 @@ returns-4 : tie.Need-returns-4
 unfolding wordsOf kindOf
 returns-4 c = rw (c .before .before .before .before .match .keys4) (c .before .before .put-words4 .ensures)
 
+same-length-5 : tie.Need-same-length-5
+same-length-5 c = search needs
+
 returns-5 : tie.Need-returns-5
 unfolding wordsOf kindOf
-returns-5 c = rw (past (c .before .before .before .args .section) (omega (arith, c .match .rest))) (nothing _ _ refl)
+returns-5 c = rw (c .before .before .before .before .match .keys5) (c .before .before .put-words5 .ensures)
+
+returns-6 : tie.Need-returns-6
+unfolding wordsOf kindOf
+returns-6 c = rw (past (c .before .before .before .args .section) (omega (arith, c .match .rest))) (nothing _ _ refl)
 
 pub put-words-spec : {M : Type 1} → statement M
 put-words-spec =
@@ -60,6 +70,7 @@ put-words-spec =
     put-words-requires-2
     put-words-requires-3
     put-words-requires-4
+    put-words-requires-5
     same-length
     returns
     same-length-2
@@ -68,4 +79,6 @@ put-words-spec =
     returns-3
     same-length-4
     returns-4
-    returns-5)
+    same-length-5
+    returns-5
+    returns-6)

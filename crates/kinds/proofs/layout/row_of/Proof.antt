@@ -23,7 +23,11 @@ returns-4 c = rw (c .match .keys4)
 
 returns-5 : tie.Need-returns-5
 unfolding nameOf mostOf descriptionSize chainCount chainLength kindOf
-returns-5 c = rw (past (c .before .args .section) (omega (arith, c .match .rest)))
+returns-5 c = rw (c .match .keys5)
+
+returns-6 : tie.Need-returns-6
+unfolding nameOf mostOf descriptionSize chainCount chainLength kindOf
+returns-6 c = rw (past (c .before .args .section) (omega (arith, c .match .rest)))
 
 pub row-of-spec : {M : Type 1} → statement M
-row-of-spec = tie.close (tie.spec returns returns-2 returns-3 returns-4 returns-5)
+row-of-spec = tie.close (tie.spec returns returns-2 returns-3 returns-4 returns-5 returns-6)
