@@ -20,6 +20,7 @@ static const char *const meanings[] = {
     [VOLTAMAR_BAD_ADDRESS] = "address unknown, not rising, or not the one due",
     [VOLTAMAR_BAD_WORDS] = "words that no accepted description writes",
     [VOLTAMAR_WRONG_COUNT] = "wrong word count (the place is the count needed)",
+    [VOLTAMAR_FIELD_TOO_BIG] = "a state's field too big for its place",
 };
 
 const char *voltamar_meaning(uint8_t number) {

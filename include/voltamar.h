@@ -32,9 +32,9 @@ extern "C" {
 
 #define VOLTAMAR_VERSION "0.1.0"
 
-#define VOLTAMAR_LONGEST_SHEET 1218
-#define VOLTAMAR_LONGEST_STREAM 2360
-#define VOLTAMAR_LONGEST_NOTICE 1756
+#define VOLTAMAR_LONGEST_SHEET 1571
+#define VOLTAMAR_LONGEST_STREAM 2520
+#define VOLTAMAR_LONGEST_NOTICE 2172
 
 /* What a call returns. */
 enum voltamar_refusal {
@@ -55,7 +55,8 @@ enum voltamar_refusal {
     VOLTAMAR_BAD_OPCODE = 14,       /* other than the one due */
     VOLTAMAR_BAD_ADDRESS = 15,      /* unknown, not rising, or not the one due */
     VOLTAMAR_BAD_WORDS = 16,        /* words that no accepted description writes */
-    VOLTAMAR_WRONG_COUNT = 17       /* *place is the words needed */
+    VOLTAMAR_WRONG_COUNT = 17,      /* *place is the words needed */
+    VOLTAMAR_FIELD_TOO_BIG = 18     /* a state's number above FFFFF hex, else state above 15, or flag above 1 */
 };
 
 /* What a number means, in a few words of English that last for ever; "done" for 0, and "not a refusal's number" for one that is none.
@@ -64,20 +65,21 @@ const char *voltamar_meaning(uint8_t number);
 
 /* ---- sheets and streams */
 
-/* Judges a sheet. Accepted: 0, and *place is 0. Refused: 1 to 11, the first fault from the left. */
+/* Judges a sheet. Accepted: 0, and *place is 0. Refused: 1 to 11 or 18, the first fault from the left. */
 uint8_t voltamar_check(const uint8_t *sheet, size_t n, size_t *place);
 
 /* Where the records of one section lie in the sheet, without their count: sheet[*start] is the first byte, *length says how many.
- * Sections: 0 terms, 1 ranges, 2 edges, 3 sums. Returns what voltamar_check returns, for the whole sheet. *start and *length are
- * both 0 where the part is empty: a refused sheet, a section without records, a number above 3. */
+ * Sections: 0 terms, 1 ranges, 2 edges, 3 sums, 4 states. Returns what voltamar_check returns, for the whole sheet. *start and
+ * *length are both 0 where the part is empty: a refused sheet, a section without records, a number above 4. */
 uint8_t voltamar_section(const uint8_t *sheet, size_t n, uint8_t number, size_t *start, size_t *length);
 
-/* Writes the sheet's commands to out, by rising address. Done: 0, and *place is their length. Refused: the sheet's refusal, or 12. */
+/* Writes the sheet's commands to out, by rising address: states, terms, ranges, edges, sums. Done: 0, and *place is their length.
+ * Refused: the sheet's refusal, or 12. */
 uint8_t voltamar_compile(const uint8_t *sheet, size_t n, uint8_t *out, size_t room, size_t *place);
 
 /* Writes to out the sheet that the command stream sets up, with labels of eight spaces and targets cut to their masks. Done: 0, and
  * *place is its length. Refused: 13 to 16, the first fault from the left, or 12. Done exactly if some accepted sheet
- * compiles to the stream; of no bytes the sheet is four zeros. */
+ * compiles to the stream; of no bytes the sheet is five zeros. */
 uint8_t voltamar_read(const uint8_t *stream, size_t n, uint8_t *out, size_t room, size_t *place);
 
 /* Writes the alteration notice of two sheets to out. Done: 0, *which is 0, and *place is the notice's length. Refused: the old

@@ -10,33 +10,36 @@
 #define RANGES 2
 #define EDGES 2
 #define SUMS 48
-#define LONGEST_SHEET 1218
+#define STATES 16
+#define LONGEST_SHEET 1571
 #define END_MARK 0xFFFFu
 
 struct term { int slot; uint8_t label[8]; uint32_t target, mask; };
 struct range { int slot; uint8_t label[8]; uint32_t lower, upper, mask; };
 struct edge { int slot; uint8_t label[8]; uint32_t rise, fall, neither; };
 struct sum { int slot; uint8_t label[8]; uint8_t op[11]; };
+struct state { int slot; uint8_t label[8]; struct conduct conduct; };
 
 struct setup {
-    int terms, ranges, edges, sums;
+    int terms, ranges, edges, sums, states;
     struct term term[TERMS];
     struct range range[RANGES];
     struct edge edge[EDGES];
     struct sum sum[SUMS];
+    struct state state[STATES];
 };
 
 /* ---- numbers ---- */
 
-static uint64_t state = 0x566F6C74616D6172u;
+static uint64_t seed = 0x566F6C74616D6172u;
 
 /* xorshift64*, the upper half */
 static uint32_t random32(void)
 {
-    state ^= state >> 12;
-    state ^= state << 25;
-    state ^= state >> 27;
-    return (uint32_t)((state * 0x2545F4914F6CDD1Du) >> 32);
+    seed ^= seed >> 12;
+    seed ^= seed << 25;
+    seed ^= seed >> 27;
+    return (uint32_t)((seed * 0x2545F4914F6CDD1Du) >> 32);
 }
 
 static uint32_t random_below(uint32_t n)
@@ -138,6 +141,42 @@ static void add_sum(struct setup *s, int slot, uint32_t start, uint32_t step)
         m->op[p] = (uint8_t)((start + p * step) % 10);
 }
 
+/* whether so many binary digits do not hold the value */
+static int does_not_fit(int value, int digits)
+{
+    return value < 0 || value >= 1 << digits;
+}
+
+static void add_state(struct setup *s, int slot, struct conduct c)
+{
+    if (s->states == STATES || slot >= STATES || (s->states > 0 && s->state[s->states - 1].slot >= slot) ||
+        c.number > 0xFFFFF || does_not_fit(c.else_state, 4) || does_not_fit(c.start, 2) || does_not_fit(c.stop, 2) ||
+        does_not_fit(c.clear, 2) || does_not_fit(c.trigger, 1) || does_not_fit(c.last, 1))
+        fail("a state that no sheet holds");
+    struct state *t = &s->state[s->states++];
+    t->slot = slot;
+    random_label(t->label);
+    t->conduct = c;
+}
+
+/* the next free slot */
+static void next_state(struct setup *s, struct conduct c)
+{
+    add_state(s, s->states, c);
+}
+
+/* `deeds`, from 0 to 255, stands for all that a state does when its number is reached */
+static struct conduct conduct(uint32_t number, int else_state, int deeds)
+{
+    struct conduct c = {number, else_state, 0, 0, 0, 0, 0};
+    c.start = deeds % 4;
+    c.stop = deeds / 4 % 4;
+    c.clear = deeds / 16 % 4;
+    c.trigger = deeds / 64 % 2;
+    c.last = deeds / 128;
+    return c;
+}
+
 static void add_random_term(struct setup *s, int slot)
 {
     uint32_t target = random32(), mask = random_mask();
@@ -174,6 +213,15 @@ static void add_random_sum(struct setup *s, int slot)
         s->sum[s->sums - 1].op[p] = (uint8_t)random_below(10);
 }
 
+static void add_random_state(struct setup *s, int slot)
+{
+    uint32_t number = random32() >> 12;
+    if (now_and_then(4))
+        number = random_below(3);
+    int else_state = (int)random_below(16), deeds = (int)random_below(256);
+    add_state(s, slot, conduct(number, else_state, deeds));
+}
+
 /* ---- the sheet, and what is sent for it ---- */
 
 static uint8_t sheet[LONGEST_SHEET];
@@ -197,6 +245,25 @@ static void put_head(int slot, const uint8_t *label)
     put_byte((uint32_t)slot);
     for (int i = 0; i < 8; i++)
         put_byte(label[i]);
+}
+
+static void put_timers(int timers)
+{
+    put_byte(timers == 1 || timers == 3);
+    put_byte(timers == 2 || timers == 3);
+}
+
+static void put_state(const struct state *t)
+{
+    const struct conduct *c = &t->conduct;
+    put_head(t->slot, t->label);
+    put_number(c->number);
+    put_byte((uint32_t)c->else_state);
+    put_timers(c->stop);
+    put_timers(c->clear);
+    put_timers(c->start);
+    put_byte(c->trigger != 0);
+    put_byte(c->last != 0);
 }
 
 static void make_sheet(const struct setup *s)
@@ -228,12 +295,17 @@ static void make_sheet(const struct setup *s)
         for (int p = 0; p < 11; p++)
             put_byte(m->op[p]);
     }
+    put_byte((uint32_t)s->states);
+    for (const struct state *t = s->state; t < s->state + s->states; t++)
+        put_state(t);
 }
 
-/* by rising address: 20.. terms, 30.. ranges, 34.. edges, 40.. sums */
+/* by rising address: 00.. states, the sheet's last, 20.. terms, 30.. ranges, 34.. edges, 40.. sums */
 static void send(const struct setup *s)
 {
     begin_stream();
+    for (const struct state *t = s->state; t < s->state + s->states; t++)
+        send_state(t->slot, &t->conduct);
     for (const struct term *t = s->term; t < s->term + s->terms; t++)
         send_term(t->slot, t->target, t->mask);
     for (const struct range *r = s->range; r < s->range + s->ranges; r++)
@@ -412,6 +484,52 @@ static void sum_cases(void)
     }
 }
 
+/* Each slot alone, each with its own fields; every else state; every bit of the number alone; nothing and everything:
+ * each field at 0, and at its most. */
+static void state_cases(void)
+{
+    struct setup s;
+    for (int slot = 0; slot < STATES; slot++) {
+        s = nothing;
+        add_state(&s, slot, conduct(0x12345u * (uint32_t)slot % 0x100000, 15 - slot, 37 * slot % 256));
+        write_case(&s);
+    }
+    s = nothing;
+    for (int to = 0; to < STATES; to++)
+        next_state(&s, conduct(1, to, 0));
+    write_case(&s);
+    s = nothing;
+    for (int bit = 0; bit < 20; bit++) {
+        next_state(&s, conduct((uint32_t)1 << bit, 0, 0));
+        if (s.states == STATES || bit == 19) {
+            write_case(&s);
+            s = nothing;
+        }
+    }
+    next_state(&s, conduct(0, 0, 0));
+    next_state(&s, conduct(0xFFFFF, 15, 255));
+    write_case(&s);
+}
+
+/* Each deed alone, and all but this one; then every set of deeds. */
+static void deed_cases(void)
+{
+    struct setup s = nothing;
+    for (int deed = 1; deed < 256; deed *= 2) {
+        next_state(&s, conduct(0, 0, deed));
+        next_state(&s, conduct(0xFFFFF, 15, 255 - deed));
+    }
+    write_case(&s);
+    s = nothing;
+    for (int deeds = 0; deeds < 256; deeds++) {
+        next_state(&s, conduct((uint32_t)deeds, deeds % 16, deeds));
+        if (s.states == STATES) {
+            write_case(&s);
+            s = nothing;
+        }
+    }
+}
+
 /* Every slot taken, every label of the given byte; the masks all of the given value. */
 static void full_case(uint8_t label, uint32_t mask)
 {
@@ -432,6 +550,10 @@ static void full_case(uint8_t label, uint32_t mask)
         add_sum(&s, i, (uint32_t)i, (uint32_t)i / 10);
         memset(s.sum[i].label, label, 8);
     }
+    for (int i = 0; i < STATES; i++) {
+        next_state(&s, conduct(mask & 0xFFFFF, i, (int)((mask + (uint32_t)i) & 0xFF)));
+        memset(s.state[i].label, label, 8);
+    }
     write_case(&s);
 }
 
@@ -451,6 +573,9 @@ static void random_case(uint32_t taken)
     for (int i = 0; i < SUMS; i++)
         if (random_below(4) < taken)
             add_random_sum(&s, i);
+    for (int i = 0; i < STATES; i++)
+        if (random_below(4) < taken)
+            add_random_state(&s, i);
     write_case(&s);
 }
 
@@ -469,6 +594,8 @@ int main(int count, char **names)
     range_cases();
     edge_cases();
     sum_cases();
+    state_cases();
+    deed_cases();
     full_case(0x20, 0);
     full_case(0x7E, 0xFFFFFFFF);
     full_case(0x41, 0x0F0F0F0F);

@@ -1,5 +1,6 @@
-/* The tables of each item, had by asking what a table has to mean at each of its sixteen addresses. No table's number
- * is written here: where the numbers come out as the rules have them, the meaning and the numbers agree. */
+/* The tables of each item, had by asking what a table has to mean at each of its sixteen addresses, and a state's word
+ * by asking the same of each of its bits. No table's number and no bit's weight is written here: where the numbers come
+ * out as the rules have them, the meaning and the numbers agree. */
 #include "words.h"
 
 uint8_t sent[LONGEST_STREAM];
@@ -194,4 +195,35 @@ void send_sum(int slot, const uint8_t operation[11])
         tables[t] = table(gate_answers, &g);
     }
     send_chain(0x40 + 4 * (uint32_t)(slot / 3) + (uint32_t)(slot % 3), tables, 12);
+}
+
+/* ---- states: one word without tables; what a bit says depends on its place ---- */
+
+/* Actions 0, 1 and 2 are stop, clear and start; timer 1 is timer 0 here. */
+static int acts(const struct conduct *c, int action, int timer)
+{
+    int timers = action == 0 ? c->stop : action == 1 ? c->clear : c->start;
+    return digit((uint32_t)timers, timer);
+}
+
+/* The number's digits, then the else state's, then each action on timer 1 and timer 2, then the two marks. */
+static int says(const struct conduct *c, int place)
+{
+    if (place < 20)
+        return digit(c->number, place);
+    if (place < 24)
+        return digit((uint32_t)c->else_state, place - 20);
+    if (place < 30)
+        return acts(c, (place - 24) / 2, (place - 24) % 2);
+    return place == 30 ? c->trigger : c->last;
+}
+
+/* The bits are asked from the highest down, and what is there is doubled for each. */
+void send_state(int slot, const struct conduct *conduct)
+{
+    uint32_t word = 0;
+    for (int place = 31; place >= 0; place--)
+        word = 2 * word + (says(conduct, place) ? 1 : 0);
+    command(SELECT, (uint32_t)slot);
+    command(LOAD, word);
 }

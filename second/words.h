@@ -5,8 +5,8 @@
 #include <stddef.h>
 #include <stdint.h>
 
-/* No sheet needs more: 10 terms, 2 ranges, 2 edges and 48 sums. */
-#define LONGEST_STREAM 2360
+/* No sheet needs more: 16 states, 10 terms, 2 ranges, 2 edges and 48 sums. */
+#define LONGEST_STREAM 2520
 
 /* What was sent since begin_stream. */
 extern uint8_t sent[LONGEST_STREAM];
@@ -14,11 +14,19 @@ extern size_t sent_length;
 
 void begin_stream(void);
 
+/* What a state waits for and does. Of stop, clear and start, digit 0 is for timer 1 and digit 1 for timer 2. */
+struct conduct {
+    uint32_t number;
+    int else_state, start, stop, clear, trigger, last;
+};
+
 /* Each takes what an accepted sheet holds: the slot is below the section's most, a range has lower at least 1, lower
- * at most upper and upper at most what its masked lines can count, no operation is above 9. */
+ * at most upper and upper at most what its masked lines can count, no operation is above 9, a state's number has
+ * twenty digits at most and its else state four. */
 void send_term(int slot, uint32_t target, uint32_t mask);
 void send_range(int slot, uint32_t lower, uint32_t upper, uint32_t mask);
 void send_edge(int slot, uint32_t rise, uint32_t fall, uint32_t neither);
 void send_sum(int slot, const uint8_t operation[11]);
+void send_state(int slot, const struct conduct *conduct);
 
 #endif

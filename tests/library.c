@@ -44,22 +44,26 @@ static size_t old_length, new_length, lift_length, wanted_length;
 static void clear(void) { memset(out, UNTOUCHED, SPACE); }
 
 /* a range 0..9 over four lines: refusal 6 at the record, offset 2 */
-static const uint8_t lower_zero[25] = {0, 1, 0, 'R', 'A', 'N', 'G', 'E', ' ', ' ', ' ', 0, 0, 0, 0, 9, 0, 0, 0, 15};
+enum { REFUSED = 26 };
+static const uint8_t lower_zero[REFUSED] = {0, 1, 0, 'R', 'A', 'N', 'G', 'E', ' ', ' ', ' ', 0, 0, 0, 0, 9, 0, 0, 0, 15};
 
 static void check_and_section(void) {
     size_t place = 99, start = 99, length = 99;
     expect(voltamar_check(old_sheet, old_length, &place) == 0 && place == 0, "check: accepted");
-    expect(voltamar_check(lower_zero, 25, &place) == 6 && place == 2, "check: refused");
+    expect(voltamar_check(lower_zero, REFUSED, &place) == 6 && place == 2, "check: refused");
     expect(voltamar_check(NULL, 0, &place) == 1 && place == 0, "check: no bytes at all");
+    expect(voltamar_check(old_sheet, old_length - 1, &place) == 1 && place == old_length - 1, "check: four sections");
+    expect(voltamar_check((const uint8_t[5]){0, 0, 0, 0, 0}, 5, &place) == 0 && place == 0, "check: five zero bytes");
 
     expect(voltamar_section(old_sheet, old_length, 0, &start, &length) == 0 && start == 1 && length == 34, "section: terms");
     expect(voltamar_section(old_sheet, old_length, 1, &start, &length) == 0 && start == 36 && length == 21, "section: ranges");
     start = length = 99;
     expect(voltamar_section(old_sheet, old_length, 2, &start, &length) == 0 && start == 0 && length == 0, "section: empty");
     start = length = 99;
-    expect(voltamar_section(old_sheet, old_length, 4, &start, &length) == 0 && start == 0 && length == 0, "section: above 3");
+    expect(voltamar_section(old_sheet, old_length, 5, &start, &length) == 0 && start == 0 && length == 0, "section: above 4");
+    expect(voltamar_section(lift, lift_length, 4, &start, &length) == 0 && start == 482 && length == 88, "section: states");
     start = length = 99;
-    expect(voltamar_section(lower_zero, 25, 1, &start, &length) == 6 && start == 0 && length == 0, "section: refused");
+    expect(voltamar_section(lower_zero, REFUSED, 1, &start, &length) == 6 && start == 0 && length == 0, "section: refused");
 }
 
 static void compile_and_read(void) {
@@ -71,7 +75,7 @@ static void compile_and_read(void) {
     clear();
     expect(voltamar_compile(lift, lift_length, out, wanted_length - 1, &place) == 12 && place == wanted_length, "compile: 12");
     expect(holds(out, NULL, 0), "compile: 12 writes nothing");
-    expect(voltamar_compile(lower_zero, 25, out, SPACE, &place) == 6 && place == 2 && holds(out, NULL, 0), "compile: refused");
+    expect(voltamar_compile(lower_zero, REFUSED, out, SPACE, &place) == 6 && place == 2 && holds(out, NULL, 0), "compile: refused");
 
     uint8_t stream[SPACE];
     size_t stream_length = load("lift.commands", stream);
@@ -86,13 +90,46 @@ static void compile_and_read(void) {
     stream[0] = 0x9E;
     stream[1] = 0x43;
     expect(voltamar_read(stream, stream_length, out, SPACE, &place) == 15 && place == 0, "read: 15");
-    stream[1] = 0x20;
-    memset(stream + 5, 0, 20);
-    stream[5] = stream[10] = stream[15] = stream[20] = 0x9F;
-    expect(voltamar_read(stream, stream_length, out, SPACE, &place) == 16 && place == 0, "read: 16");
+    stream[1] = 0x00;
+    /* behind the four states, the words of the first term */
+    for (size_t at = 45; at < 65; at += 5) memset(stream + at + 1, 0, 4);
+    expect(voltamar_read(stream, stream_length, out, SPACE, &place) == 16 && place == 40, "read: 16");
     expect(holds(out, NULL, 0), "read: refusals write nothing");
-    expect(voltamar_read(NULL, 0, out, SPACE, &place) == 0 && place == 4, "read: an empty stream");
-    expect(holds(out, (const uint8_t[4]){0, 0, 0, 0}, 4), "read: four zero bytes");
+    expect(voltamar_read(NULL, 0, out, SPACE, &place) == 0 && place == 5, "read: an empty stream");
+    expect(holds(out, (const uint8_t[5]){0, 0, 0, 0, 0}, 5), "read: five zero bytes");
+}
+
+/* a state in slot 15: number FFFFF hex, else state 15, start timer 1, trigger */
+static void states(void) {
+    uint8_t sheet[27] = {0, 0, 0, 0, 1, 15, 'S', 'T', 'A', 'T', 'E', ' ', ' ', ' ', 0xFF, 0xFF, 0x0F, 0, 15};
+    const uint8_t commands[10] = {0x9E, 15, 0, 0, 0, 0x9F, 0xFF, 0xFF, 0xFF, 0x50};
+    size_t place = 99;
+    uint8_t which = 99;
+    sheet[23] = sheet[25] = 1;
+    clear();
+    expect(voltamar_compile(sheet, 27, out, SPACE, &place) == 0 && place == 10, "states: length of the commands");
+    expect(holds(out, commands, 10), "states: the commands");
+
+    uint8_t back[27];
+    memcpy(back, sheet, 27);
+    memset(back + 6, ' ', 8);
+    clear();
+    expect(voltamar_read(commands, 10, out, SPACE, &place) == 0 && place == 27, "states: length of the sheet");
+    expect(holds(out, back, 27), "states: the sheet, with a blank label");
+
+    const char *text = "STAT 15 NAME\nSTAT 15 ALTR\n";
+    back[26] = 1; /* last */
+    clear();
+    expect(voltamar_notice(sheet, 27, back, 27, out, SPACE, &which, &place) == 0 && place == 26, "states: length of the notice");
+    expect(holds(out, (const uint8_t *)text, 26), "states: ALTR shows no sample");
+
+    for (size_t field = 16; field < 27; field++) { /* the number's third byte and all that follow */
+        uint8_t good = sheet[field];
+        sheet[field] = 16;
+        expect(voltamar_check(sheet, 27, &place) == 18 && place == 5, "states: 18");
+        sheet[field] = good;
+    }
+    expect(voltamar_check(sheet, 27, &place) == 0 && place == 0, "states: accepted");
 }
 
 static void notices(void) {
@@ -100,9 +137,9 @@ static void notices(void) {
     uint8_t which = 99;
     size_t place = 99;
     clear();
-    expect(voltamar_notice(old_sheet, old_length, lower_zero, 25, out, SPACE, &which, &place) == 6 && which == 2 && place == 2,
+    expect(voltamar_notice(old_sheet, old_length, lower_zero, REFUSED, out, SPACE, &which, &place) == 6 && which == 2 && place == 2,
            "notice: the new sheet is refused");
-    expect(voltamar_notice(lower_zero, 25, NULL, 0, out, SPACE, &which, &place) == 6 && which == 1 && place == 2,
+    expect(voltamar_notice(lower_zero, REFUSED, NULL, 0, out, SPACE, &which, &place) == 6 && which == 1 && place == 2,
            "notice: the old sheet speaks first");
     expect(voltamar_notice(old_sheet, old_length, new_sheet, new_length, out, 59, &which, &place) == 12 && which == 0 && place == 60,
            "notice: 12 is of neither");
@@ -155,7 +192,7 @@ static void meanings(void) {
     expect(strcmp(voltamar_meaning(VOLTAMAR_LOWER_ZERO), "lower bound is 0") == 0, "meaning: a refusal");
     for (int number = 0; number < 256; number++) {
         int is_none = strcmp(voltamar_meaning((uint8_t)number), "not a refusal's number") == 0;
-        expect(is_none == (number > VOLTAMAR_WRONG_COUNT), "meaning: every number");
+        expect(is_none == (number > VOLTAMAR_FIELD_TOO_BIG), "meaning: every number");
     }
     expect(sizeof VOLTAMAR_VERSION > 1, "version");
 }
@@ -167,6 +204,7 @@ int main(void) {
     lift_length = load("lift.sheet", lift);
     check_and_section();
     compile_and_read();
+    states();
     notices();
     model();
     rules();

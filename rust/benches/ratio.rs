@@ -32,7 +32,7 @@ fn main() {
         std::process::exit(2);
     }
     let mut random = Random(1);
-    // sheets from half full to full; the second of each pair is near the first
+    // sheets from half full to full, where all sixteen states are there too; the second of each pair is near the first
     let pairs: Vec<(Vec<u8>, Vec<u8>)> = (0..1000)
         .map(|n| {
             let setup = Setup::random(&mut random, 4 + n % 5);
@@ -49,7 +49,7 @@ fn main() {
     );
     println!("{:<10} {:>12} {:>12} {:>8}", "call", "proved (ns)", "plain (ns)", "ratio");
 
-    let (mut a, mut b) = (vec![0; 2360], vec![0; 2360]);
+    let (mut a, mut b) = (vec![0; plain::LONGEST_STREAM], vec![0; plain::LONGEST_STREAM]);
     compare("check", &sheets, |sheet| voltamar::check(sheet), |sheet| plain::check(sheet));
     compare(
         "compile",

@@ -3,8 +3,8 @@
 //! beyond the length it answers.
 //!
 //! ```
-//! // a sheet with one term: slot 0, a label of eight bytes, target 5, mask F; no range, no edge, no sum
-//! let sheet = b"\x01\x00DOORLOCK\x05\x00\x00\x00\x0F\x00\x00\x00\x00\x00\x00";
+//! // a sheet with one term: slot 0, a label of eight bytes, target 5, mask F; no range, no edge, no sum, no state
+//! let sheet = b"\x01\x00DOORLOCK\x05\x00\x00\x00\x0F\x00\x00\x00\x00\x00\x00\x00";
 //! let mut out = [0; voltamar::LONGEST_STREAM];
 //! let length = voltamar::compile(sheet, &mut out)?;
 //! assert_eq!(length, 25);
@@ -15,9 +15,9 @@ use std::error::Error;
 use std::fmt;
 
 /// Room for the longest sheet, the most commands and the longest notice.
-pub const LONGEST_SHEET: usize = 1218;
-pub const LONGEST_STREAM: usize = 2360;
-pub const LONGEST_NOTICE: usize = 1756;
+pub const LONGEST_SHEET: usize = 1571;
+pub const LONGEST_STREAM: usize = 2520;
+pub const LONGEST_NOTICE: usize = 2172;
 
 /// A refusal: its number, and its place (for 12 the bytes needed, for 17 the words needed).
 #[derive(Clone, Copy, Debug, PartialEq, Eq)]
@@ -47,6 +47,7 @@ impl Refusal {
             15 => "address unknown, not rising, or not the one due",
             16 => "words that no accepted description writes",
             17 => "wrong word count (the place is the count needed)",
+            18 => "a state's field too big for its place",
             _ => "not a refusal's number",
         }
     }
@@ -135,7 +136,7 @@ fn answer<T>(number: u8, place: usize, done: T) -> Result<T, Refusal> {
 /// Judges a sheet.
 ///
 /// ```
-/// assert_eq!(voltamar::check(&[0, 0, 0, 0]), Ok(()));
+/// assert_eq!(voltamar::check(&[0, 0, 0, 0, 0]), Ok(()));
 /// assert_eq!(voltamar::check(&[11]), Err(voltamar::Refusal { number: 2, place: 0 }));
 /// ```
 #[inline]
@@ -145,13 +146,13 @@ pub fn check(sheet: &[u8]) -> Result<(), Refusal> {
     answer(number, place, ())
 }
 
-/// The part of the sheet that holds one section's records, without the count: 0 terms, 1 ranges, 2 edges, 3 sums. It is
-/// empty for a number above 3. A refused sheet gives what [`check`] gives.
+/// The part of the sheet that holds one section's records, without the count: 0 terms, 1 ranges, 2 edges, 3 sums,
+/// 4 states. It is empty for a number above 4. A refused sheet gives what [`check`] gives.
 ///
 /// ```
-/// let sheet = b"\x01\x00DOORLOCK\x05\x00\x00\x00\x0F\x00\x00\x00\x00\x00\x00";
+/// let sheet = b"\x01\x00DOORLOCK\x05\x00\x00\x00\x0F\x00\x00\x00\x00\x00\x00\x00";
 /// assert_eq!(voltamar::section(sheet, 0), Ok(&sheet[1..18]));
-/// assert_eq!(voltamar::section(sheet, 4), Ok(&[][..]));
+/// assert_eq!(voltamar::section(sheet, 5), Ok(&[][..]));
 /// assert_eq!(voltamar::section(&sheet[..9], 3), Err(voltamar::Refusal { number: 1, place: 1 }));
 /// ```
 #[inline]
@@ -175,7 +176,7 @@ pub fn compile(sheet: &[u8], out: &mut [u8]) -> Result<usize, Refusal> {
 ///
 /// ```
 /// let mut out = [0; voltamar::LONGEST_SHEET];
-/// assert_eq!(voltamar::read(&[], &mut out), Ok(4)); // an empty stream gives four zero bytes
+/// assert_eq!(voltamar::read(&[], &mut out), Ok(5)); // an empty stream gives five zero bytes
 /// assert_eq!(voltamar::read(&[0x9F, 0, 0, 0, 0], &mut out), Err(voltamar::Refusal { number: 14, place: 0 }));
 /// ```
 #[inline]
@@ -188,8 +189,8 @@ pub fn read(stream: &[u8], out: &mut [u8]) -> Result<usize, Refusal> {
 /// Writes the alteration notice of two sheets to the start of `out` and answers its length.
 ///
 /// ```
-/// let old = b"\x01\x00DOORLOCK\x05\x00\x00\x00\x0F\x00\x00\x00\x00\x00\x00";
-/// let new = b"\x01\x00DOORLK  \x07\x00\x00\x00\x0F\x00\x00\x00\x00\x00\x00";
+/// let old = b"\x01\x00DOORLOCK\x05\x00\x00\x00\x0F\x00\x00\x00\x00\x00\x00\x00";
+/// let new = b"\x01\x00DOORLK  \x07\x00\x00\x00\x0F\x00\x00\x00\x00\x00\x00\x00";
 /// let mut out = [0; voltamar::LONGEST_NOTICE];
 /// let length = voltamar::notice(old, new, &mut out)?;
 /// assert_eq!(&out[..length], b"TERM 00 NAME\nTERM 00 ALTR 00000005\n");

@@ -6,17 +6,21 @@ use voltamar::{check, notice, Refusal};
 fn refusals_are_errors() {
     fn judged(sheet: &[u8]) -> Result<(), Box<dyn Error>> {
         check(sheet)?;
-        notice(sheet, &[0; 5], &mut [])?;
+        notice(sheet, &[0; 6], &mut [])?;
         Ok(())
     }
     assert_eq!(judged(&[0, 3]).unwrap_err().to_string(), "refused 2 at 1: count above the section's most");
-    assert_eq!(judged(&[0; 4]).unwrap_err().to_string(), "new sheet: refused 11 at 4: bytes left over");
+    assert_eq!(judged(&[0; 4]).unwrap_err().to_string(), "refused 1 at 4: count or record incomplete");
+    assert_eq!(judged(&[0; 5]).unwrap_err().to_string(), "new sheet: refused 11 at 5: bytes left over");
+    // a state whose else state is 16
+    let sheet = b"\0\0\0\0\x01\0STATE   \x01\0\0\0\x10\0\0\0\0\0\0\0\0";
+    assert_eq!(judged(sheet).unwrap_err().to_string(), "refused 18 at 5: a state's field too big for its place");
 }
 
 #[test]
 fn every_number_has_a_meaning() {
-    for number in 1..=17 {
+    for number in 1..=18 {
         assert_ne!(Refusal { number, place: 0 }.meaning(), "not a refusal's number");
     }
-    assert_eq!(Refusal { number: 18, place: 0 }.meaning(), "not a refusal's number");
+    assert_eq!(Refusal { number: 19, place: 0 }.meaning(), "not a refusal's number");
 }

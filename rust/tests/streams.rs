@@ -31,8 +31,14 @@ fn read_agrees() {
         proved.count(got.err().map_or(0, |refusal| refusal.0));
         plain.count(want.err().map_or(0, |refusal| refusal.0));
     }
-    proved.expect(12..=16, STREAMS / 10, STREAMS / 50);
-    plain.expect(12..=16, STREAMS / 10, STREAMS / 50);
+    proved.expect(&[12..=16], STREAMS / 10, STREAMS / 50);
+    plain.expect(&[12..=16], STREAMS / 10, STREAMS / 50);
+}
+
+/// The states of an accepted sheet without their labels.
+fn states(sheet: &[u8]) -> Vec<(u8, &[u8])> {
+    let part = voltamar::section(sheet, 4).expect("accepted");
+    part.chunks_exact(plain::SIZE[4]).map(|state| (state[0], &state[9..])).collect()
 }
 
 /// Sheet to commands and back, all by the proved library.
@@ -46,6 +52,7 @@ fn reading_back_gives_the_sheet() {
         let length = voltamar::compile(&sheet, &mut commands).expect("accepted, with room");
         let mut back = vec![0; sheet.len()];
         assert_eq!(voltamar::read(&commands[..length], &mut back), Ok(sheet.len()));
+        assert_eq!(states(&back), states(&sheet), "sheet {sheet:02X?}");
         let mut again = [0; voltamar::LONGEST_STREAM];
         assert_eq!(voltamar::compile(&back, &mut again), Ok(length));
         assert!(commands == again, "sheet {sheet:02X?}");

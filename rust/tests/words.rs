@@ -135,7 +135,7 @@ fn model_agrees() {
         hits[3] += usize::from(both(&mut tallies[3], got, want, || format!("sum {words:08X?} {sources:04X}")));
     }
     for tally in tallies.iter().flatten() {
-        tally.expect(17..=17, ROUNDS / 2, ROUNDS / 50);
+        tally.expect(&[17..=17], ROUNDS / 2, ROUNDS / 50);
     }
     assert!(hits.iter().all(|hits| (ROUNDS / 20..ROUNDS * 9 / 10).contains(hits)), "{hits:?}");
 }

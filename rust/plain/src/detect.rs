@@ -1,4 +1,4 @@
-//! The detectors and sums: plain rules of a hit, chain words, the model that runs words, and the way back.
+//! The detectors, sums and states: plain rules of a hit, chain words, the model that runs words, and the way back.
 use crate::{refused, Refusal};
 
 // ---- plain rules of a hit ----
@@ -115,6 +115,13 @@ pub fn sum_words(operations: &[u8; 11]) -> [u32; 6] {
         pair(3) << 16 | pair(2),
         pair(1) << 16 | pair(0),
     ]
+}
+
+/// A state's one word holds no tables: the number from bit 0, the else state from bit 20, a bit for each flag from 24.
+/// The flags are stop, clear and start, each for timer 1 and then timer 2, trigger, last. Every field fits its bits.
+pub fn state_word(number: u32, else_state: u8, flags: [u8; 8]) -> u32 {
+    let flags = (24..).zip(flags).fold(0, |word, (bit, flag)| word | u32::from(flag) << bit);
+    number | u32::from(else_state) << 20 | flags
 }
 
 // ---- the model ----
@@ -274,4 +281,9 @@ pub fn read_sum(words: &[u32; 6]) -> Option<[u8; 11]> {
     operations[9] = code(&MID, half(words[1], 1))?;
     operations[10] = code(&FINAL, words[0])?; // the high half must be 0
     Some(operations)
+}
+
+/// Number, else state and flags: every word is a state's.
+pub fn read_state(word: u32) -> (u32, u8, [u8; 8]) {
+    (word & 0xF_FFFF, (word >> 20 & 15) as u8, std::array::from_fn(|flag| (word >> (24 + flag) & 1) as u8))
 }

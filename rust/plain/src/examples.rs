@@ -1,6 +1,7 @@
 //! The files of examples/: sample sheets and what the calls give for them.
 use crate::make::{self, Setup};
-use crate::{notice, read, LONGEST_NOTICE, LONGEST_SHEET, SIZE};
+use crate::sheet;
+use crate::{notice, read, LONGEST_NOTICE, LONGEST_SHEET, SECTIONS, SIZE};
 use std::fmt::Write;
 
 /// Adds a record to a section of a sheet in the making.
@@ -31,6 +32,17 @@ fn sum(setup: &mut Setup, state: u8, part: u8, label: &str, operations: [&str; 1
 }
 
 const OPERATIONS: [&str; 10] = ["NOP", "ANY", "AND", "NAND", "OR", "NOR", "XOR", "NXOR", "A", "B"];
+
+fn state(setup: &mut Setup, slot: u8, label: &str, number: u32, else_state: u8, flags: &[&str]) {
+    assert!(flags.iter().all(|flag| FLAGS.contains(flag)), "{label}");
+    let mut description = number.to_le_bytes().to_vec();
+    description.push(else_state);
+    description.extend(FLAGS.map(|flag| u8::from(flags.contains(&flag))));
+    add(setup, 4, slot, label, &description);
+}
+
+/// In the order of their bits.
+const FLAGS: [&str; 8] = ["stop1", "stop2", "clear1", "clear2", "start1", "start2", "trigger", "last"];
 
 /// The older sheet of the rules' door-lock pair.
 fn old() -> Setup {
@@ -72,14 +84,18 @@ fn lift() -> Setup {
     sum(&mut s, 0, 1, "S0 ALARM", [no, no, no, no, or, no, no, no, no, or, or]);
     sum(&mut s, 0, 2, "S0 CAPT", [no, no, "B", no, no, no, no, no, or, no, or]);
     sum(&mut s, 1, 0, "S1 MOVE", [no, "A", "A", no, no, no, no, no, or, no, or]);
-    sum(&mut s, 1, 1, "S1 ALARM", [no, no, no, "A", or, no, no, no, or, or, or]);
+    sum(&mut s, 1, 1, "S1 ALARM", [no, no, no, or, or, no, no, no, or, or, or]);
     sum(&mut s, 1, 2, "S1 CAPT", [no, no, no, no, no, no, no, no, no, no, "ANY"]);
     sum(&mut s, 2, 0, "S2 FAULT", [no, no, no, "A", no, "B", "B", no, or, or, or]);
-    sum(&mut s, 2, 1, "S2 LEVEL", [no, no, no, no, no, no, no, "A", no, or, or]);
+    sum(&mut s, 2, 1, "S2 LEVEL", [no, no, no, no, no, no, no, or, no, or, or]);
     sum(&mut s, 2, 2, "S2 CAPT", [no, "B", "A", no, no, no, no, no, or, no, or]);
     sum(&mut s, 3, 0, "S3 STOP", [no, "A", "A", no, no, no, no, no, "NOR", no, or]);
     sum(&mut s, 3, 1, "S3 INSP", [no, no, no, no, no, "A", no, no, no, or, or]);
     sum(&mut s, 3, 2, "S3 CAPT", ["XOR", no, no, no, no, no, no, no, or, no, or]);
+    state(&mut s, 0, "LOCKED", 3, 0, &["clear1", "clear2", "start1", "start2"]);
+    state(&mut s, 1, "MOVING", 1, 0, &[]);
+    state(&mut s, 2, "FAULT", 1, 0, &["stop1", "stop2", "trigger"]);
+    state(&mut s, 3, "STOPPED", 100, 3, &["last"]);
     s
 }
 
@@ -103,6 +119,10 @@ fn revised() -> Setup {
     edge(&mut s, 1, "STANDS", 0x8_0000, 0, 0x8000_0000); // another label
     s.sections[3][8][1 + 8 + 1] = 0; // S2 CAPT asks for range 1 no more
     sum(&mut s, 4, 0, "S4 ANY", ["NOP", "NOP", "NOP", "NOP", "NOP", "NOP", "NOP", "NOP", "NOP", "NOP", "ANY"]);
+    s.sections[4].truncate(1); // without state 3
+    state(&mut s, 1, "RIDING", 1, 0, &[]); // another label
+    state(&mut s, 2, "FAULT", 1, 4, &["stop1", "stop2", "trigger", "last"]); // another else state, and the last flag
+    state(&mut s, 4, "ARRIVED", 1000, 4, &["last"]);
     s
 }
 
@@ -110,29 +130,56 @@ fn hex(bytes: &[u8]) -> String {
     bytes.iter().map(|byte| format!("{byte:02X}")).collect::<Vec<_>>().join(" ")
 }
 
-/// A sheet one record to a line, as `voltamar show` has it: offset, then a count, or slot, label and description in hex.
+/// A sheet one record to a line, as `voltamar show` has it: offset, then a count, or slot, label and description.
 fn sheet_text(setup: &Setup) -> String {
-    const NAME: [&str; 4] = ["terms", "ranges", "edges", "sums"];
-    const FIELDS: [&[&str]; 4] = [&["target", "mask"], &["lower", "upper", "mask"], &["rise", "fall", "neither"], &[]];
-    const STAGES: [&str; 11] = ["ab", "c", "d", "e", "fg", "h", "i", "j", "mid1", "mid2", "final"];
+    const NAME: [&str; SECTIONS] = ["terms", "ranges", "edges", "sums", "states"];
     let mut text = String::new();
     let mut at = 0;
     for (section, records) in setup.sections.iter().enumerate() {
         let _ = writeln!(text, "{at:>4}  {}: {}", NAME[section], records.len());
         at += 1;
         for record in records {
-            let _ = write!(text, "{at:>4}  slot {} \"{}\"", record[0], String::from_utf8_lossy(&record[1..9]));
-            for (field, bytes) in FIELDS[section].iter().zip(record[9..].chunks(4)) {
-                let _ = write!(text, " {field} {:08X}", u32::from_le_bytes(bytes.try_into().expect("four bytes")));
-            }
-            if section == 3 {
-                for (stage, &code) in STAGES.iter().zip(&record[9..]) {
-                    let _ = write!(text, " {stage} {}", OPERATIONS[code as usize]);
-                }
-            }
-            text.push('\n');
+            let (label, fields) = (String::from_utf8_lossy(&record[1..9]), fields_text(section, &record[9..]));
+            let _ = writeln!(text, "{at:>4}  slot {} \"{label}\"{fields}", record[0]);
             at += record.len();
         }
+    }
+    text
+}
+
+/// The fields of a description, each behind its name.
+fn fields_text(section: usize, description: &[u8]) -> String {
+    match section {
+        0 => numbers_text(&["target", "mask"], description),
+        1 => numbers_text(&["lower", "upper", "mask"], description),
+        2 => numbers_text(&["rise", "fall", "neither"], description),
+        3 => sum_text(description),
+        _ => state_text(description),
+    }
+}
+
+fn numbers_text(names: &[&str], description: &[u8]) -> String {
+    let numbers = description.chunks(4).map(|four| u32::from_le_bytes(four.try_into().expect("four bytes")));
+    names.iter().zip(numbers).map(|(name, number)| format!(" {name} {number:08X}")).collect()
+}
+
+fn sum_text(operations: &[u8]) -> String {
+    const STAGES: [&str; 11] = ["ab", "c", "d", "e", "fg", "h", "i", "j", "mid1", "mid2", "final"];
+    let name = |code: u8| OPERATIONS[usize::from(code)];
+    STAGES.iter().zip(operations).map(|(stage, &code)| format!(" {stage} {}", name(code))).collect()
+}
+
+/// The else state is a slot, so it is in decimal; of the flags those that are 1 are named.
+fn state_text(description: &[u8]) -> String {
+    let (number, else_state, flags) = sheet::state(description);
+    let mut text = format!(" number {number:08X} else {else_state} flags");
+    for (name, flag) in FLAGS.iter().zip(flags) {
+        if flag == 1 {
+            let _ = write!(text, " {name}");
+        }
+    }
+    if flags == [0; 8] {
+        text.push_str(" none");
     }
     text
 }

@@ -8,14 +8,14 @@ mod sheet;
 mod stream;
 
 pub use detect::{edge_hit, gather, range_hit, run_edge, run_range, run_sum, run_term, term_hit};
-pub use detect::{edge_words, range_words, sum_words, term_words};
-pub use detect::{read_edge, read_range, read_sum, read_term};
+pub use detect::{edge_words, range_words, state_word, sum_words, term_words};
+pub use detect::{read_edge, read_range, read_state, read_sum, read_term};
 pub use notice::{least_telling_range, least_telling_term, notice, notice_agrees, telling_edge, NoticeRefusal};
-pub use sheet::{check, section, LONGEST_SHEET, MOST, SIZE};
+pub use sheet::{check, section, LONGEST_SHEET, MOST, SECTIONS, SIZE};
 pub use stream::{compile, read, LONGEST_STREAM};
 
 /// The longest notice: every slot of both sheets with a changed label and a changed description.
-pub const LONGEST_NOTICE: usize = 1756;
+pub const LONGEST_NOTICE: usize = 2172;
 
 /// A refusal: its number, and its place (for 12 the bytes needed, for 17 the words needed).
 #[derive(Clone, Copy, Debug, PartialEq, Eq)]

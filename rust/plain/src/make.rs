@@ -1,6 +1,6 @@
 //! Inputs to compare on: random sheets, sheets that are near one another, damaged sheets, damaged streams, chain words.
 use crate::sheet::description_fault;
-use crate::{compile, LONGEST_STREAM, MOST, SIZE};
+use crate::{compile, LONGEST_SHEET, LONGEST_STREAM, MOST, SECTIONS, SIZE};
 
 /// A small generator of random numbers (xorshift64*), so that no other crate is needed. The seed is not 0.
 pub struct Random(pub u64);
@@ -72,7 +72,7 @@ impl Random {
 /// A sheet in parts: for each section its records, each record its bytes.
 #[derive(Clone, Default)]
 pub struct Setup {
-    pub sections: [Vec<Vec<u8>>; 4],
+    pub sections: [Vec<Vec<u8>>; SECTIONS],
 }
 
 impl Setup {
@@ -164,13 +164,14 @@ fn numbers(numbers: &[u32]) -> Vec<u8> {
     numbers.iter().flat_map(|number| number.to_le_bytes()).collect()
 }
 
-/// An accepted description of a term (section 0), range (1), edge (2) or sum (3).
+/// An accepted description of a term (section 0), range (1), edge (2), sum (3) or state (4).
 pub fn description(random: &mut Random, section: usize) -> Vec<u8> {
     match section {
         0 => numbers(&[if random.one_in(2) { random.u32() } else { random.mask() }, random.mask()]),
         1 => numbers(&range(random)),
         2 => numbers(&edge(random)),
-        _ => (0..11).map(|_| random.below(10) as u8).collect(),
+        3 => (0..11).map(|_| random.below(10) as u8).collect(),
+        _ => state(random),
     }
 }
 
@@ -204,6 +205,25 @@ pub fn edge(random: &mut Random) -> [u32; 3] {
     [random.mask() & !neither, random.mask() & !neither, neither]
 }
 
+/// An accepted state: often a number at a bound or of one bit, and no, one or every flag.
+fn state(random: &mut Random) -> Vec<u8> {
+    let number = match random.below(4) {
+        0 => random.pick(&[0, 1, 2, 0xF_FFFF]),
+        1 => 1 << random.below(20),
+        _ => random.u32() >> 12,
+    };
+    let flags = match random.below(5) {
+        0 => 0,
+        1 => 0xFF,
+        2 => 1 << random.below(8),
+        _ => random.u8(),
+    };
+    let mut state = numbers(&[number]);
+    state.push(random.below(16) as u8);
+    state.extend((0..8).map(|flag| flags >> flag & 1));
+    state
+}
+
 /// Changes a record's description a little, and keeps it accepted. Many of the changes change no hit.
 fn nudge(random: &mut Random, section: usize, record: &mut [u8]) {
     let before = record.to_vec();
@@ -223,7 +243,12 @@ fn nudge(random: &mut Random, section: usize, record: &mut [u8]) {
             let at = 9 + random.below(12);
             record[at] ^= 1 << random.below(8);
         }
-        _ => record[9 + random.below(11)] = random.below(10) as u8,
+        3 => record[9 + random.below(11)] = random.below(10) as u8,
+        _ => match random.below(3) {
+            0 => record[9 + random.below(3)] ^= 1 << random.below(8),
+            1 => record[13] = random.below(16) as u8,
+            _ => record[14 + random.below(8)] ^= 1,
+        },
     }
     if description_fault(section, &record[9..]).is_some() {
         record.copy_from_slice(&before);
@@ -247,52 +272,25 @@ fn near_range(random: &mut Random, [lower, upper, mask]: [u32; 3]) -> [u32; 3] {
 pub fn damaged_sheet(random: &mut Random, setup: &Setup) -> Vec<u8> {
     let mut setup = setup.clone();
     for _ in 0..random.pick(&[0, 1, 1, 1, 2, 3]) {
-        let section = random.below(4);
+        let section = random.below(SECTIONS);
         let records = &mut setup.sections[section];
         if records.is_empty() {
             continue;
         }
         let which = random.below(records.len());
         let before = records[which.saturating_sub(1)][0];
-        let record = &mut records[which];
-        match (random.below(6), section) {
-            (0, _) => record[0] = MOST[section] + random.pick(&[0, 0, 1, 100]),
-            (1, _) => record[0] = before,
-            (2, _) => record[1 + random.below(8)] = random.pick(&[0x1F, 0x7F, 0x00, 0xFF, 0x80]),
-            (_, 1) => {
-                let mask = u32::from_le_bytes(record[17..21].try_into().expect("four bytes"));
-                let past = (1u64 << mask.count_ones()) as u32;
-                match random.below(6) {
-                    0 => record[9..13].fill(0),
-                    1 => record[13..17].fill(0),
-                    2 => record[13..17].copy_from_slice(&past.to_le_bytes()),
-                    3 => record[17..21].fill(0),
-                    4 => record[9..21].fill(0),
-                    _ => record[9..13].copy_from_slice(&past.to_le_bytes()),
-                }
-            }
-            (_, 2) => {
-                let line = random.below(32);
-                record[17 + line / 8] |= 1 << (line % 8);
-                record[9 + 4 * random.below(2) + line / 8] |= 1 << (line % 8);
-            }
-            (_, 3) => record[9 + random.below(11)] = random.pick(&[10, 11, 255, 9, 128]),
-            _ => {
-                let at = random.below(record.len());
-                record[at] = random.u8();
-            }
-        }
+        damage_record(random, section, before, &mut records[which]);
     }
     if random.one_in(8) {
-        let section = random.below(4);
+        let section = random.below(SECTIONS);
         let records = &mut setup.sections[section];
         if let Some(last) = records.last().cloned() {
-            // one record too many, which the count of a full section does not bear
-            records.push(last);
+            records.push(last); // where the section was full, one more than its count may be
         }
     }
     let mut sheet = setup.sheet();
-    match random.below(10) {
+    let count_at = |section: usize| (0..section).map(|s| 1 + setup.sections[s].len() * SIZE[s]).sum::<usize>();
+    match random.below(11) {
         0 => sheet.truncate(random.below(sheet.len() + 1)),
         1 => sheet.extend((0..1 + random.below(30)).map(|_| random.u8())),
         2 => {
@@ -301,18 +299,56 @@ pub fn damaged_sheet(random: &mut Random, setup: &Setup) -> Vec<u8> {
         }
         3 => {
             // a count that is not true
-            let section = random.below(4);
-            let at = (0..section).map(|s| 1 + setup.sections[s].len() * SIZE[s]).sum::<usize>();
+            let section = random.below(SECTIONS);
+            let at = count_at(section);
             sheet[at] = random.pick(&[sheet[at].wrapping_add(1), sheet[at].wrapping_sub(1), MOST[section] + 1, 255, 0]);
         }
+        4 => sheet.truncate(count_at(4)), // a sheet from before there were states
         _ => {}
     }
     sheet
 }
 
+/// Puts a fault into a record, or tries to; `before` is the slot of the record before it.
+fn damage_record(random: &mut Random, section: usize, before: u8, record: &mut [u8]) {
+    match (random.below(6), section) {
+        (0, _) => record[0] = MOST[section] + random.pick(&[0, 0, 1, 100]),
+        (1, _) => record[0] = before,
+        (2, _) => record[1 + random.below(8)] = random.pick(&[0x1F, 0x7F, 0x00, 0xFF, 0x80]),
+        (_, 1) => {
+            let mask = u32::from_le_bytes(record[17..21].try_into().expect("four bytes"));
+            let past = (1u64 << mask.count_ones()) as u32;
+            match random.below(6) {
+                0 => record[9..13].fill(0),
+                1 => record[13..17].fill(0),
+                2 => record[13..17].copy_from_slice(&past.to_le_bytes()),
+                3 => record[17..21].fill(0),
+                4 => record[9..21].fill(0),
+                _ => record[9..13].copy_from_slice(&past.to_le_bytes()),
+            }
+        }
+        (_, 2) => {
+            let line = random.below(32);
+            record[17 + line / 8] |= 1 << (line % 8);
+            record[9 + 4 * random.below(2) + line / 8] |= 1 << (line % 8);
+        }
+        (_, 3) => record[9 + random.below(11)] = random.pick(&[10, 11, 255, 9, 128]),
+        (3, 4) => {
+            let number: u32 = random.pick(&[0xF_FFFF, 0x10_0000, 0x10_0001, 0x100_0000, 0x8000_0000, u32::MAX]);
+            record[9..13].copy_from_slice(&number.to_le_bytes());
+        }
+        (4, 4) => record[13] = random.pick(&[15, 16, 17, 0x80, 255]),
+        (_, 4) => record[14 + random.below(8)] = random.pick(&[0, 1, 2, 3, 0x80, 255]),
+        _ => {
+            let at = random.below(record.len());
+            record[at] = random.u8();
+        }
+    }
+}
+
 /// Bytes with no plan, but for counts that are mostly small.
 pub fn noise_sheet(random: &mut Random) -> Vec<u8> {
-    let most = random.pick(&[0, 1, 4, 5, 20, 60, 1218, 1230]);
+    let most = random.pick(&[0, 1, 4, 5, 6, 20, 60, LONGEST_SHEET, LONGEST_SHEET + 12]);
     let length = random.below(most + 1);
     let mut sheet = random.bytes(length);
     for byte in &mut sheet {
@@ -366,7 +402,7 @@ fn damage_commands(random: &mut Random, commands: &mut Vec<[u8; 5]>) {
     let selects = selects(commands);
     let select = if selects.is_empty() { at } else { random.pick(&selects) };
     let word = random.below(commands.len());
-    match random.below(16) {
+    match random.below(17) {
         0 => commands[at][0] ^= 1,
         1 => commands[at][0] = random.u8(),
         2 => commands[at][random.below(5)] ^= 1 << random.below(8),
@@ -375,7 +411,10 @@ fn damage_commands(random: &mut Random, commands: &mut Vec<[u8; 5]>) {
         }
         4 => commands.insert(at, commands[at]),
         5 => commands.truncate(at),
-        6 => commands[select][1] = random.pick(&[0x1F, 0x2A, 0x31, 0x33, 0x36, 0x38, 0x3F, 0x43, 0x7F, 0x80, 0x00]),
+        6 => {
+            let odd = [0x00, 0x0F, 0x10, 0x1F, 0x2A, 0x31, 0x33, 0x36, 0x38, 0x3F, 0x43, 0x7F, 0x80];
+            commands[select][1] = random.pick(&odd);
+        }
         7 => commands[select][1] = commands[select][1].wrapping_add(random.pick(&[1, 2, 3, 0xFF])),
         8 => commands[select][2 + random.below(3)] = random.pick(&[1, 0x80]),
         9 => swap_chains(random, commands, &selects),
@@ -390,6 +429,8 @@ fn damage_commands(random: &mut Random, commands: &mut Vec<[u8; 5]>) {
             let half = random.below(2);
             commands[word][1 + 2 * half..3 + 2 * half].copy_from_slice(&random.pick(&known).to_le_bytes());
         }
+        // the first chain, a state's where there is one, goes last
+        15 => commands.rotate_left(selects.get(1).copied().unwrap_or(0)),
         _ => odd_range(random, commands, &selects),
     }
 }
@@ -454,7 +495,7 @@ pub fn noise_stream(random: &mut Random) -> Vec<u8> {
         bytes[at] = random.pick(&[0x9E, 0x9F, 0x9F, 0x9E, 0x00]);
         if bytes[at] == 0x9E && at + 5 <= bytes.len() {
             bytes[at + 1..at + 5].fill(0);
-            bytes[at + 1] = random.pick(&[0x20, 0x21, 0x30, 0x34, 0x40, 0x41, 0x43, 0x31]);
+            bytes[at + 1] = random.pick(&[0x00, 0x01, 0x0F, 0x10, 0x20, 0x21, 0x30, 0x34, 0x40, 0x41, 0x43, 0x31]);
         }
     }
     bytes
@@ -473,7 +514,7 @@ pub fn words(random: &mut Random, count: usize) -> Vec<u32> {
 
 /// How often each answer came: 0 done, else the refusal's number.
 #[derive(Default, Debug)]
-pub struct Tally([usize; 18]);
+pub struct Tally([usize; 19]);
 
 impl Tally {
     pub fn count(&mut self, number: u8) {
@@ -481,10 +522,10 @@ impl Tally {
     }
 
     /// Stops unless done and each of these refusals came at least so often, and no other did.
-    pub fn expect(&self, refusals: std::ops::RangeInclusive<usize>, done: usize, each: usize) {
+    pub fn expect(&self, refusals: &[std::ops::RangeInclusive<usize>], done: usize, each: usize) {
         let fits = |(number, &times): (usize, &usize)| match number {
             0 => times >= done,
-            _ if refusals.contains(&number) => times >= each,
+            _ if refusals.iter().any(|some| some.contains(&number)) => times >= each,
             _ => times == 0,
         };
         assert!(self.0.iter().enumerate().all(fits), "times that each number came: {self:?}");

@@ -1,6 +1,6 @@
 //! The alteration notice: one that the rules allow, and the test of any other.
 use crate::detect::scatter;
-use crate::sheet::{parts, three, two, DESCRIPTION, SIZE};
+use crate::sheet::{parts, three, two, DESCRIPTION, SECTIONS, SIZE};
 use crate::{edge_hit, range_hit, term_hit, Refusal, LONGEST_NOTICE};
 
 /// A refused notice: the sheet that the refusal is of, or the bytes needed (12 is of neither).
@@ -132,7 +132,13 @@ enum Verdict<'a> {
     Name,
     Word,
     Oper,
-    Altr { shown: Telling, old: &'a [u8], new: &'a [u8] },
+    /// ALTR of a state, which shows no sample.
+    Fields,
+    Altr {
+        shown: Telling,
+        old: &'a [u8],
+        new: &'a [u8],
+    },
 }
 
 /// A telling sample, or an earlier and a later one.
@@ -142,11 +148,11 @@ enum Telling {
     Two(u32, u32),
 }
 
-const KIND: [&[u8; 4]; 4] = [b"TERM", b"RANG", b"EDGE", b"SUMS"];
+const KIND: [&[u8; 4]; SECTIONS] = [b"TERM", b"RANG", b"EDGE", b"SUMS", b"STAT"];
 
 /// Every line that two accepted sheets give, by section and then slot.
-fn each_line<'a>(old: &[&'a [u8]; 4], new: &[&'a [u8]; 4], mut say: impl FnMut(usize, u8, Verdict<'a>)) {
-    for section in 0..4 {
+fn each_line<'a>(old: &[&'a [u8]; SECTIONS], new: &[&'a [u8]; SECTIONS], mut say: impl FnMut(usize, u8, Verdict<'a>)) {
+    for section in 0..SECTIONS {
         let mut before = old[section].chunks_exact(SIZE[section]).peekable();
         let mut after = new[section].chunks_exact(SIZE[section]).peekable();
         while let Some(slot) = before.peek().into_iter().chain(after.peek()).map(|record| record[0]).min() {
@@ -174,7 +180,8 @@ fn changed<'a>(section: usize, old: &'a [u8], new: &'a [u8]) -> Verdict<'a> {
         0 => least_telling_term(two(old), two(new)).map(Telling::One),
         1 => least_telling_range(three(old), three(new)).map(Telling::One),
         2 => telling_edge(three(old), three(new)).map(|(earlier, later)| Telling::Two(earlier, later)),
-        _ => return Verdict::Oper,
+        3 => return Verdict::Oper,
+        _ => return Verdict::Fields,
     };
     match told {
         Some(shown) => Verdict::Altr { shown, old, new },
@@ -215,6 +222,7 @@ impl Page {
             Verdict::Name => self.put(b"NAME"),
             Verdict::Word => self.put(b"WORD"),
             Verdict::Oper => self.put(b"OPER"),
+            Verdict::Fields => self.put(b"ALTR"),
             Verdict::Altr { shown, .. } => {
                 self.put(b"ALTR");
                 match *shown {

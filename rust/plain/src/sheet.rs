@@ -1,11 +1,13 @@
-//! The set-up sheet: four sections (terms, ranges, edges, sums), each after its count.
+//! The set-up sheet: five sections (terms, ranges, edges, sums, sequence states), each after its count.
 use crate::{number_at, refused, Refusal};
 
-/// Records that a section may have, and the bytes of one record.
-pub const MOST: [u8; 4] = [10, 2, 2, 48];
-pub const SIZE: [usize; 4] = [17, 21, 21, 20];
+pub const SECTIONS: usize = 5;
 
-pub const LONGEST_SHEET: usize = 1218;
+/// Records that a section may have, and the bytes of one record.
+pub const MOST: [u8; SECTIONS] = [10, 2, 2, 48, 16];
+pub const SIZE: [usize; SECTIONS] = [17, 21, 21, 20, 22];
+
+pub const LONGEST_SHEET: usize = 1571;
 
 /// Where a record's description starts: after slot and label.
 pub const DESCRIPTION: usize = 9;
@@ -25,11 +27,11 @@ pub fn section(sheet: &[u8], number: u8) -> (u8, usize, usize) {
     }
 }
 
-/// The records of the four sections, or the first fault from the left.
-pub(crate) fn parts(sheet: &[u8]) -> Result<[&[u8]; 4], Refusal> {
-    let mut parts: [&[u8]; 4] = [&[]; 4];
+/// The records of each section, or the first fault from the left.
+pub(crate) fn parts(sheet: &[u8]) -> Result<[&[u8]; SECTIONS], Refusal> {
+    let mut parts: [&[u8]; SECTIONS] = [&[]; SECTIONS];
     let mut at = 0;
-    for section in 0..4 {
+    for section in 0..SECTIONS {
         let Some(&count) = sheet.get(at) else { return refused(1, at) };
         if count > MOST[section] {
             return refused(2, at);
@@ -88,6 +90,10 @@ pub(crate) fn description_fault(section: usize, description: &[u8]) -> Option<u8
             (neither & (rise | fall) != 0).then_some(9)
         }
         3 => description.iter().any(|&operation| operation > 9).then_some(10),
+        4 => {
+            let (number, else_state, flags) = state(description);
+            (number > 0xF_FFFF || else_state > 15 || flags.iter().any(|&flag| flag > 1)).then_some(18)
+        }
         _ => None,
     }
 }
@@ -100,4 +106,9 @@ pub(crate) fn three(description: &[u8]) -> (u32, u32, u32) {
 /// The numbers of a term: target and mask.
 pub(crate) fn two(description: &[u8]) -> (u32, u32) {
     (number_at(description, 0), number_at(description, 4))
+}
+
+/// The fields of a state: number, else state, flags.
+pub(crate) fn state(description: &[u8]) -> (u32, u8, [u8; 8]) {
+    (number_at(description, 0), description[4], description[5..13].try_into().expect("a state has eight flags"))
 }

@@ -1,15 +1,19 @@
 //! Sheet to commands and back.
-use crate::sheet::{parts, three, two, DESCRIPTION, LONGEST_SHEET, SIZE};
-use crate::{edge_words, range_words, read_edge, read_range, read_sum, read_term, sum_words, term_words};
+use crate::sheet::{parts, state, three, two, DESCRIPTION, LONGEST_SHEET, SECTIONS, SIZE};
+use crate::{edge_words, range_words, state_word, sum_words, term_words};
 use crate::{number_at, refused, Refusal};
+use crate::{read_edge, read_range, read_state, read_sum, read_term};
 
-pub const LONGEST_STREAM: usize = 2360;
+pub const LONGEST_STREAM: usize = 2520;
 
 const SELECT: u8 = 0x9E;
 const WORD: u8 = 0x9F;
 
 /// The bytes of one item's commands, by section: one select to a chain, five bytes to a command.
-const ITEM: [usize; 4] = [5 * 5, 2 * 17 * 5, 9 * 5, 7 * 5];
+const ITEM: [usize; SECTIONS] = [5 * 5, 2 * 17 * 5, 9 * 5, 7 * 5, 2 * 5];
+
+/// The sections by their addresses: the states go out first.
+const SENDING: [usize; SECTIONS] = [4, 0, 1, 2, 3];
 
 /// Lent room that commands are put into, one after the other.
 struct Commands<'a> {
@@ -35,37 +39,45 @@ impl Commands<'_> {
 
 pub fn compile(sheet: &[u8], out: &mut [u8]) -> Result<usize, Refusal> {
     let parts = parts(sheet)?;
-    let needed = (0..4).map(|section| parts[section].len() / SIZE[section] * ITEM[section]).sum();
+    let needed = (0..SECTIONS).map(|section| parts[section].len() / SIZE[section] * ITEM[section]).sum();
     if out.len() < needed {
         return refused(12, needed);
     }
     let mut commands = Commands { room: out, at: 0 };
-    for (section, part) in parts.into_iter().enumerate() {
-        for record in part.chunks_exact(SIZE[section]) {
-            let (slot, description) = (u32::from(record[0]), &record[DESCRIPTION..]);
-            match section {
-                0 => {
-                    let (target, mask) = two(description);
-                    commands.chain(0x20 + slot, &term_words(target, mask));
-                }
-                1 => {
-                    let (lower, upper, mask) = three(description);
-                    let words = range_words(lower, upper, mask);
-                    commands.chain(0x30 + 2 * slot, &words[..16]);
-                    commands.chain(0x31 + 2 * slot, &words[16..]);
-                }
-                2 => {
-                    let (rise, fall, neither) = three(description);
-                    commands.chain(0x34 + slot, &edge_words(rise, fall, neither));
-                }
-                _ => {
-                    let operations = description.try_into().expect("a sum has eleven operations");
-                    commands.chain(0x40 + slot / 3 * 4 + slot % 3, &sum_words(operations));
-                }
-            }
+    for section in SENDING {
+        for record in parts[section].chunks_exact(SIZE[section]) {
+            send(&mut commands, section, u32::from(record[0]), &record[DESCRIPTION..]);
         }
     }
     Ok(needed)
+}
+
+/// Puts the commands of one record.
+fn send(commands: &mut Commands, section: usize, slot: u32, description: &[u8]) {
+    match section {
+        0 => {
+            let (target, mask) = two(description);
+            commands.chain(0x20 + slot, &term_words(target, mask));
+        }
+        1 => {
+            let (lower, upper, mask) = three(description);
+            let words = range_words(lower, upper, mask);
+            commands.chain(0x30 + 2 * slot, &words[..16]);
+            commands.chain(0x31 + 2 * slot, &words[16..]);
+        }
+        2 => {
+            let (rise, fall, neither) = three(description);
+            commands.chain(0x34 + slot, &edge_words(rise, fall, neither));
+        }
+        3 => {
+            let operations = description.try_into().expect("a sum has eleven operations");
+            commands.chain(0x40 + slot / 3 * 4 + slot % 3, &sum_words(operations));
+        }
+        _ => {
+            let (number, else_state, flags) = state(description);
+            commands.chain(slot, &[state_word(number, else_state, flags)]);
+        }
+    }
 }
 
 /// A stream that is read command by command.
@@ -98,6 +110,7 @@ impl Cursor<'_> {
 /// Section and slot of an address that an item may start with.
 fn item_at(address: u32) -> Option<(usize, u8)> {
     match address {
+        0x00..=0x0F => Some((4, address as u8)),
         0x20..=0x29 => Some((0, address as u8 - 0x20)),
         0x30 | 0x32 => Some((1, (address as u8 - 0x30) / 2)),
         0x34 | 0x35 => Some((2, address as u8 - 0x34)),
@@ -138,64 +151,92 @@ impl Growing {
         self.put(&[slot]);
         self.put(b"        ");
     }
+
+    fn numbers(&mut self, numbers: &[u32]) {
+        for number in numbers {
+            self.put(&number.to_le_bytes());
+        }
+    }
+}
+
+/// The states met, slot and word: they come first in the stream and stand last on the sheet.
+struct States {
+    met: [(u8, u32); 16],
+    count: usize,
 }
 
 pub fn read(stream: &[u8], out: &mut [u8]) -> Result<usize, Refusal> {
     let mut cursor = Cursor { stream, at: 0 };
     let mut sheet = Growing::new();
-    let mut last = 0; // the last address met; the lowest known is above it
+    let mut states = States { met: [(0, 0); 16], count: 0 };
+    let mut least = 0; // the least address that may come next
     while cursor.at < stream.len() {
         let start = cursor.at;
         let address = cursor.due(SELECT)?;
-        let Some((section, slot)) = item_at(address).filter(|_| address > last) else { return refused(15, start) };
+        let Some((section, slot)) = item_at(address).filter(|_| address >= least) else { return refused(15, start) };
         cursor.at += 5;
-        last = address;
-        match section {
-            0 => {
-                let mut words = [0; 4];
-                cursor.words(&mut words)?;
-                let Some((target, mask)) = read_term(&words) else { return refused(16, start) };
-                sheet.head(section, slot);
-                sheet.put(&target.to_le_bytes());
-                sheet.put(&mask.to_le_bytes());
-            }
-            1 => {
-                let mut words = [0; 32];
-                cursor.words(&mut words[..16])?;
-                if cursor.due(SELECT)? != address + 1 {
-                    return refused(15, cursor.at);
-                }
-                cursor.at += 5;
-                last = address + 1;
-                cursor.words(&mut words[16..])?;
-                let Some((lower, upper, mask)) = read_range(&words) else { return refused(16, start) };
-                sheet.head(section, slot);
-                sheet.put(&lower.to_le_bytes());
-                sheet.put(&upper.to_le_bytes());
-                sheet.put(&mask.to_le_bytes());
-            }
-            2 => {
-                let mut words = [0; 8];
-                cursor.words(&mut words)?;
-                let Some((rise, fall, neither)) = read_edge(&words) else { return refused(16, start) };
-                sheet.head(section, slot);
-                sheet.put(&rise.to_le_bytes());
-                sheet.put(&fall.to_le_bytes());
-                sheet.put(&neither.to_le_bytes());
-            }
-            _ => {
-                let mut words = [0; 6];
-                cursor.words(&mut words)?;
-                let Some(operations) = read_sum(&words) else { return refused(16, start) };
-                sheet.head(section, slot);
-                sheet.put(&operations);
-            }
+        least = address + 1;
+        if section == 4 {
+            let mut word = [0];
+            cursor.words(&mut word)?;
+            states.met[states.count] = (slot, word[0]);
+            states.count += 1;
+        } else {
+            item(&mut cursor, &mut sheet, section, slot)?;
         }
     }
-    sheet.go_to(3);
+    for &(slot, word) in &states.met[..states.count] {
+        let (number, else_state, flags) = read_state(word);
+        sheet.head(4, slot);
+        sheet.numbers(&[number]);
+        sheet.put(&[else_state]);
+        sheet.put(&flags);
+    }
+    sheet.go_to(4);
     if out.len() < sheet.length {
         return refused(12, sheet.length);
     }
     out[..sheet.length].copy_from_slice(&sheet.bytes[..sheet.length]);
     Ok(sheet.length)
+}
+
+/// Reads an item of tables, whose select has been read, and puts its record.
+fn item(cursor: &mut Cursor, sheet: &mut Growing, section: usize, slot: u8) -> Result<(), Refusal> {
+    let start = cursor.at - 5;
+    match section {
+        0 => {
+            let mut words = [0; 4];
+            cursor.words(&mut words)?;
+            let Some((target, mask)) = read_term(&words) else { return refused(16, start) };
+            sheet.head(section, slot);
+            sheet.numbers(&[target, mask]);
+        }
+        1 => {
+            let mut words = [0; 32];
+            cursor.words(&mut words[..16])?;
+            if cursor.due(SELECT)? != 0x31 + 2 * u32::from(slot) {
+                return refused(15, cursor.at);
+            }
+            cursor.at += 5;
+            cursor.words(&mut words[16..])?;
+            let Some((lower, upper, mask)) = read_range(&words) else { return refused(16, start) };
+            sheet.head(section, slot);
+            sheet.numbers(&[lower, upper, mask]);
+        }
+        2 => {
+            let mut words = [0; 8];
+            cursor.words(&mut words)?;
+            let Some((rise, fall, neither)) = read_edge(&words) else { return refused(16, start) };
+            sheet.head(section, slot);
+            sheet.numbers(&[rise, fall, neither]);
+        }
+        _ => {
+            let mut words = [0; 6];
+            cursor.words(&mut words)?;
+            let Some(operations) = read_sum(&words) else { return refused(16, start) };
+            sheet.head(section, slot);
+            sheet.put(&operations);
+        }
+    }
+    Ok(())
 }

@@ -1,6 +1,6 @@
 //! The bench examples of the rules, those marked P and the others, on the plain implementation.
 use plain::{check, compile, gather, notice, notice_agrees, read, section};
-use plain::{edge_words, range_hit, range_words, run_range, sum_words, term_hit, term_words, Refusal};
+use plain::{edge_words, range_hit, range_words, run_range, state_word, sum_words, term_hit, term_words, Refusal};
 
 const LABEL: &[u8; 8] = b"LABEL   ";
 
@@ -15,12 +15,24 @@ fn record(slot: u8, label: &[u8; 8], numbers: &[u32]) -> Vec<u8> {
     record
 }
 
-fn sheet(sections: [&[Vec<u8>]; 4]) -> Vec<u8> {
+/// The flags by their bits, the lowest first.
+fn state(slot: u8, number: u32, else_state: u8, flags: u8) -> Vec<u8> {
+    let mut record = record(slot, LABEL, &[number]);
+    record.push(else_state);
+    record.extend((0..8).map(|bit| flags >> bit & 1));
+    record
+}
+
+fn sheet(sections: [&[Vec<u8>]; 5]) -> Vec<u8> {
     sections.iter().flat_map(|records| [vec![records.len() as u8], records.concat()].concat()).collect()
 }
 
 fn range_sheet(lower: u32, upper: u32, mask: u32) -> Vec<u8> {
-    sheet([&[], &[record(0, LABEL, &[lower, upper, mask])], &[], &[]])
+    sheet([&[], &[record(0, LABEL, &[lower, upper, mask])], &[], &[], &[]])
+}
+
+fn state_sheet(states: &[Vec<u8>]) -> Vec<u8> {
+    sheet([&[], &[], &[], &[], states])
 }
 
 fn command(opcode: u8, number: u32) -> Vec<u8> {
@@ -28,7 +40,7 @@ fn command(opcode: u8, number: u32) -> Vec<u8> {
 }
 
 fn noticed(old: &[u8], new: &[u8]) -> String {
-    let mut out = [0; 1756];
+    let mut out = [0; 2172];
     let length = notice(old, new, &mut out).expect("two accepted sheets and room");
     notice_agrees(old, new, &out[..length]).expect("its own notice agrees");
     String::from_utf8(out[..length].to_vec()).expect("plain letters")
@@ -85,21 +97,21 @@ fn edge_words_of_the_bench() {
 
 #[test]
 fn streams_of_the_bench() {
-    let mut out = [0; 1218];
+    let mut out = [0; 1571];
     for opcode in [0, 0x9E, 0x9F] {
         assert_eq!(read(&[opcode, 0, 0, 0], &mut out), refusal(13, 0));
     }
     assert_eq!(read(&command(0x9F, 0), &mut out), refusal(14, 0));
     assert_eq!(read(&command(0x9E, 0x43), &mut out), refusal(15, 0));
     assert_eq!(read(&command(0x9E, 0x120), &mut out), refusal(15, 0));
-    assert_eq!(read(&[], &mut out), Ok(4));
-    assert_eq!(out[..4], [0; 4]);
+    assert_eq!(read(&[], &mut out), Ok(5));
+    assert_eq!(out[..5], [0; 5]);
 }
 
 #[test]
 fn places_in_a_stream() {
-    let mut out = [0; 1218];
-    let mut stream = vec![0; 2360];
+    let mut out = [0; 1571];
+    let mut stream = vec![0; 2520];
     let length = compile(&range_sheet(3, 9, 0xF), &mut stream).unwrap();
     stream.truncate(length);
     assert_eq!(length, 170);
@@ -117,11 +129,133 @@ fn places_in_a_stream() {
 }
 
 #[test]
+fn fields_of_a_state_and_their_bits() {
+    // the flags' bytes in the order of their bits: stop, clear, start of each timer, trigger, last
+    for (flag, bit) in (0..8).zip(24..32) {
+        let mut flags = [0; 8];
+        flags[flag] = 1;
+        assert_eq!(state_word(0, 0, flags), 1 << bit);
+    }
+    assert_eq!(state_word(0xF_FFFF, 0, [0; 8]), 0x000F_FFFF);
+    assert_eq!(state_word(0, 15, [0; 8]), 0x00F0_0000);
+    assert_eq!(state_word(0, 0, [0; 8]), 0);
+    assert_eq!(state_word(0xF_FFFF, 15, [1; 8]), 0xFFFF_FFFF);
+    assert_eq!(state_word(3, 7, [0, 0, 0, 0, 1, 0, 1, 0]), 0x5070_0003);
+}
+
+#[test]
+fn states_accepted_and_refused() {
+    let judged = |number, else_state, flag: usize, value| {
+        let mut record = state(0, number, else_state, 0);
+        record[14 + flag] = value;
+        check(&state_sheet(&[record]))
+    };
+    assert_eq!(judged(0, 0, 0, 0), Ok(()));
+    assert_eq!(judged(0xF_FFFF, 15, 0, 1), Ok(()));
+    for number in [0x10_0000, 0x10_0001, 0x100_0000, 0xFFFF_FFFF] {
+        assert_eq!(judged(number, 0, 0, 0), refusal(18, 5), "number {number:X}");
+    }
+    for else_state in [16, 17, 255] {
+        assert_eq!(judged(1, else_state, 0, 0), refusal(18, 5), "else {else_state}");
+    }
+    for flag in 0..8 {
+        assert_eq!(judged(1, 0, flag, 1), Ok(()));
+        assert_eq!(judged(1, 0, flag, 2), refusal(18, 5), "flag {flag}");
+        assert_eq!(judged(1, 0, flag, 255), refusal(18, 5), "flag {flag}");
+    }
+}
+
+#[test]
+fn eighteen_comes_last_in_a_record_and_at_its_place() {
+    let bad = state(7, 0x10_0000, 16, 0);
+    assert_eq!(check(&state_sheet(&[state(6, 1, 0, 0), bad.clone()])), refusal(18, 27));
+    assert_eq!(check(&state_sheet(&[state(7, 1, 0, 0), bad.clone()])), refusal(4, 27));
+    let mut label = bad.clone();
+    label[1] = 0x1F;
+    assert_eq!(check(&state_sheet(&[label])), refusal(5, 5));
+    let mut slot = bad.clone();
+    slot[0] = 16;
+    assert_eq!(check(&state_sheet(&[slot])), refusal(3, 5));
+    let sheet = state_sheet(&[bad]);
+    assert_eq!(check(&sheet[..26]), refusal(1, 5));
+    assert_eq!(check(&[&sheet[..], &[0]].concat()), refusal(18, 5), "before bytes left over");
+    assert_eq!(check(&state_sheet(&vec![state(0, 1, 0, 0); 17])), refusal(2, 4));
+}
+
+#[test]
+fn states_go_out_first() {
+    let (low, high) = (state(0, 1, 2, 0), state(15, 0xABCDE, 15, 0x81));
+    let sheet = sheet([&[record(0, LABEL, &[5, 0xF])], &[], &[], &[], &[low, high]]);
+    let mut stream = [0; 45];
+    assert_eq!(compile(&sheet, &mut stream), Ok(45));
+    let numbers: Vec<(u8, u32)> =
+        stream.chunks(5).map(|c| (c[0], u32::from_le_bytes(c[1..].try_into().unwrap()))).collect();
+    assert_eq!(numbers[..4], [(0x9E, 0x00), (0x9F, 0x0020_0001), (0x9E, 0x0F), (0x9F, 0x81FA_BCDE)]);
+    assert_eq!(numbers[4], (0x9E, 0x20));
+    let mut back = vec![0; sheet.len()];
+    assert_eq!(read(&stream, &mut back), Ok(sheet.len()));
+    let blank = String::from_utf8_lossy(&sheet).replace("LABEL", "     ");
+    assert_eq!(String::from_utf8_lossy(&back), blank);
+}
+
+#[test]
+fn states_in_a_stream() {
+    let mut out = [0; 1571];
+    let select = |address| command(0x9E, address);
+    let item = |address, word| [select(address), command(0x9F, word)].concat();
+    for slot in 0..16 {
+        // no word is refused
+        for word in [0, 1, 0x000F_FFFF, 0x0010_0000, 0x5AA5_5AA5, 0x8000_0000, 0xFFFF_FFFF] {
+            assert_eq!(read(&item(slot, word), &mut out), Ok(27));
+            assert_eq!(check(&out[..27]), Ok(()));
+            assert_eq!((&out[..5], out[5], &out[6..14]), (&[0, 0, 0, 0, 1][..], slot as u8, &b"        "[..]));
+            let fields = (word & 0xF_FFFF, (word >> 20 & 15) as u8, (word >> 24) as u8);
+            assert_eq!(out[14..27], state(0, fields.0, fields.1, fields.2)[9..]);
+        }
+    }
+    for address in [0x10, 0x1F, 0x100, 0x0100_0000, 0x8000_0000] {
+        assert_eq!(read(&item(address, 0), &mut out), refusal(15, 0), "{address:X}");
+    }
+    assert_eq!(read(&item(0, 0)[..9], &mut out), refusal(13, 5));
+    assert_eq!(read(&select(0), &mut out), refusal(13, 5));
+    assert_eq!(read(&[select(0), select(1)].concat(), &mut out), refusal(14, 5));
+    assert_eq!(read(&[item(0, 0), item(0, 0)].concat(), &mut out), refusal(15, 10), "met before");
+    assert_eq!(read(&[item(2, 0), item(1, 0)].concat(), &mut out), refusal(15, 10), "falling");
+    let term = [select(0x20), command(0x9F, 0xFFFF_FFFF).repeat(4)].concat();
+    assert_eq!(read(&[&term[..], &item(0, 0)].concat(), &mut out), refusal(15, 25), "a state behind a term");
+    assert_eq!(read(&[&item(15, 0)[..], &term].concat(), &mut out), Ok(44));
+}
+
+#[test]
+fn states_in_a_notice() {
+    let one = |number, else_state, flags| state_sheet(&[state(0, number, else_state, flags)]);
+    assert_eq!(noticed(&one(0, 0, 0), &one(1, 0, 0)), "STAT 00 ALTR\n", "0 and 1 are different numbers");
+    assert_eq!(noticed(&one(1, 0, 0), &one(1, 15, 0)), "STAT 00 ALTR\n");
+    for flag in 0..8 {
+        assert_eq!(noticed(&one(1, 0, 0), &one(1, 0, 1 << flag)), "STAT 00 ALTR\n");
+    }
+    assert_eq!(noticed(&one(1, 2, 3), &one(1, 2, 3)), "");
+    let mut named = state(15, 1, 0, 0);
+    named[1] = b'X';
+    let old = state_sheet(&[state(3, 1, 0, 0), state(9, 1, 0, 0), state(15, 1, 0, 0)]);
+    let new = state_sheet(&[state(9, 1, 0, 0), state(10, 1, 0, 0), named.clone()]);
+    assert_eq!(noticed(&old, &new), "STAT 03 GONE\nSTAT 10 NEW\nSTAT 15 NAME\n");
+    named[13] = 1;
+    let mut sums = state_sheet(&[named]);
+    assert_eq!(noticed(&state_sheet(&[state(15, 1, 0, 0)]), &sums), "STAT 15 NAME\nSTAT 15 ALTR\n");
+    // behind the sums
+    sums.splice(3..4, [&[1][..], &record(47, LABEL, &[]), &[0; 11]].concat());
+    assert_eq!(noticed(&state_sheet(&[state(0, 1, 0, 0)]), &sums), "SUMS 47 NEW\nSTAT 00 GONE\nSTAT 15 NEW\n");
+}
+
+#[test]
 fn the_notice_given_whole() {
     let range = record(0, b"LEVELS  ", &[3, 9, 0xF]);
-    let old = sheet([&[record(0, b"DOORLOCK", &[5, 0xF]), record(1, b"BRAKE   ", &[4, 0xF])], &[range], &[], &[]]);
+    let terms = [record(0, b"DOORLOCK", &[5, 0xF]), record(1, b"BRAKE   ", &[4, 0xF])];
+    let old = sheet([&terms, &[range], &[], &[], &[]]);
     let new = sheet([
         &[record(0, b"DOORLK  ", &[5, 0xF]), record(1, b"BRAKE   ", &[6, 0xF]), record(2, LABEL, &[1, 1])],
+        &[],
         &[],
         &[],
         &[],
@@ -137,20 +271,13 @@ fn the_notice_given_whole() {
 
 #[test]
 fn wrong_notices_do_not_agree() {
-    let old = sheet([
-        &[record(1, LABEL, &[4, 0xF])],
-        &[record(0, LABEL, &[3, 9, 0xF])],
-        &[record(1, LABEL, &[1, 2, 4])],
-        &[],
-    ]);
-    let new = sheet([
-        &[record(1, LABEL, &[6, 0xF])],
-        &[record(0, LABEL, &[3, 8, 0xF])],
-        &[record(1, LABEL, &[1, 0, 4])],
-        &[],
-    ]);
+    let made = |target, upper, fall, number| {
+        let (term, range) = (record(1, LABEL, &[target, 0xF]), record(0, LABEL, &[3, upper, 0xF]));
+        sheet([&[term], &[range], &[record(1, LABEL, &[1, fall, 4])], &[], &[state(7, number, 0, 0)]])
+    };
+    let (old, new) = (made(4, 9, 2, 1), made(6, 8, 0, 2));
     let agrees = |text: &str| notice_agrees(&old, &new, text.as_bytes()).is_ok();
-    let good = "TERM 01 ALTR 00000004\nRANG 00 ALTR 00000009\nEDGE 01 ALTR 00000002 00000004\n";
+    let good = "TERM 01 ALTR 00000004\nRANG 00 ALTR 00000009\nEDGE 01 ALTR 00000002 00000004\nSTAT 07 ALTR\n";
     assert!(agrees(good));
     assert!(agrees(&good.replace("ALTR 00000009", "ALTR FFFFFFF9")), "any telling sample of a range");
     assert!(agrees(&good.replace("2 00000004", "A 00000004")), "any telling pair of an edge");
@@ -166,6 +293,10 @@ fn wrong_notices_do_not_agree() {
         ("RANG 00 ALTR 00000009\n", "RANG 00 WORD\n"),
         ("RANG", "EDGE"),
         ("4\n", "4\r\n"),
+        ("STAT 07 ALTR\n", ""),
+        ("STAT 07 ALTR\n", "STAT 07 ALTR \n"), // neither a space nor a sample
+        ("STAT 07 ALTR\n", "STAT 07 ALTR 00000000\n"),
+        ("STAT 07 ALTR\n", "STAT 07 WORD\n"),
     ] {
         let good = if from.starts_with('F') { good.replace("ALTR 00000009", "ALTR FFFFFFF9") } else { good.into() };
         assert!(good.contains(from));
@@ -187,32 +318,44 @@ fn sizes() {
         record.extend([9; 11]);
         record
     };
-    let mut full: [Vec<Vec<u8>>; 4] = Default::default();
+    let mut full: [Vec<Vec<u8>>; 5] = Default::default();
     full[0] = (0..10).map(|slot| record(slot, LABEL, &[1, 1])).collect();
     full[1] = (0..2).map(|slot| record(slot, LABEL, &[1, 1, 1])).collect();
     full[2] = (0..2).map(|slot| record(slot, LABEL, &[1, 1, 2])).collect();
     full[3] = (0..48).map(operations).collect();
-    let old = sheet([&full[0], &full[1], &full[2], &full[3]]);
-    for (records, at) in full.iter_mut().zip([9, 17, 9, 9]) {
+    full[4] = (0..16).map(|slot| state(slot, 1, 15, 0xFF)).collect();
+    let old = sheet([&full[0], &full[1], &full[2], &full[3], &full[4]]);
+    for (records, at) in full.iter_mut().zip([9, 17, 9, 9, 9]) {
         records.iter_mut().for_each(|record| {
             record[1] = b'X';
             record[at] = 4;
         });
     }
-    let new = sheet([&full[0], &full[1], &full[2], &full[3]]);
-    assert_eq!((old.len(), check(&old), check(&new)), (1218, Ok(()), Ok(())));
-    assert_eq!(compile(&old, &mut [0; 2360]), Ok(2360));
-    assert_eq!(compile(&old, &mut [0; 2359]), refusal(12, 2360));
-    assert_eq!(noticed(&old, &new).len(), 1756);
+    let new = sheet([&full[0], &full[1], &full[2], &full[3], &full[4]]);
+    assert_eq!((old.len(), check(&old), check(&new)), (1571, Ok(()), Ok(())));
+    let mut stream = [0; 2520];
+    assert_eq!(compile(&old, &mut stream), Ok(2520));
+    assert_eq!(compile(&old, &mut [0; 2519]), refusal(12, 2520));
+    assert_eq!(read(&stream, &mut [0; 1571]), Ok(1571));
+    assert_eq!(read(&stream, &mut [0; 1570]), refusal(12, 1571));
+    assert_eq!(noticed(&old, &new).len(), 2172);
+    // one byte more of a sheet, one command more of a stream: what is behind changes nothing
+    assert_eq!(check(&[&old[..], &[0]].concat()), refusal(11, 1571));
+    assert_eq!(read(&[&stream[..], &command(0x9E, 0)].concat(), &mut [0; 1571]), refusal(15, 2520));
+    // the full sheet of the four sections that there were before the states
+    assert_eq!(check(&old[..1218]), refusal(1, 1218));
 }
 
 #[test]
 fn sections() {
-    let sheet = sheet([&[], &[record(0, LABEL, &[1, 1, 1])], &[], &[]]);
+    let sheet = sheet([&[], &[record(0, LABEL, &[1, 1, 1])], &[], &[], &[state(2, 1, 0, 0), state(3, 1, 0, 0)]]);
     assert_eq!(section(&sheet, 0), (0, 0, 0));
     assert_eq!(section(&sheet, 1), (0, 2, 21));
-    assert_eq!(section(&sheet, 4), (0, 0, 0));
+    assert_eq!(section(&sheet, 3), (0, 0, 0));
+    assert_eq!(section(&sheet, 4), (0, 26, 44));
+    assert_eq!(section(&sheet, 5), (0, 0, 0));
     assert_eq!(section(&sheet[..20], 1), (1, 0, 0));
+    assert_eq!(section(&sheet[..60], 1), (1, 0, 0), "a fault of the last section empties the others too");
 }
 
 #[test]
@@ -220,21 +363,23 @@ fn first_fault_wins() {
     let term = |slot| record(slot, LABEL, &[0, 0]);
     assert_eq!(check(&[]), refusal(1, 0));
     assert_eq!(check(&[0, 0, 0]), refusal(1, 3));
+    assert_eq!(check(&[0, 0, 0, 0]), refusal(1, 4), "four sections are no sheet any more");
+    assert_eq!(check(&[0, 0, 0, 0, 0]), Ok(()));
     assert_eq!(check(&[11]), refusal(2, 0));
     assert_eq!(check(&[0, 3]), refusal(2, 1));
     assert_eq!(check(&[1, 200]), refusal(1, 1), "an incomplete record comes before its bad slot");
-    assert_eq!(check(&[0, 0, 0, 0, 0]), refusal(11, 4));
-    assert_eq!(check(&sheet([&[term(10)], &[], &[], &[]])), refusal(3, 1));
-    assert_eq!(check(&sheet([&[term(9), term(10)], &[], &[], &[]])), refusal(3, 18));
-    assert_eq!(check(&sheet([&[term(3), term(3)], &[], &[], &[]])), refusal(4, 18));
-    assert_eq!(check(&sheet([&[term(3), term(2)], &[], &[], &[]])), refusal(4, 18));
+    assert_eq!(check(&[0, 0, 0, 0, 0, 0]), refusal(11, 5));
+    assert_eq!(check(&sheet([&[term(10)], &[], &[], &[], &[]])), refusal(3, 1));
+    assert_eq!(check(&sheet([&[term(9), term(10)], &[], &[], &[], &[]])), refusal(3, 18));
+    assert_eq!(check(&sheet([&[term(3), term(3)], &[], &[], &[], &[]])), refusal(4, 18));
+    assert_eq!(check(&sheet([&[term(3), term(2)], &[], &[], &[], &[]])), refusal(4, 18));
     for byte in [0x1F, 0x7F] {
         let mut bad = term(0);
         bad[8] = byte;
-        assert_eq!(check(&sheet([&[bad], &[], &[], &[]])), refusal(5, 1));
+        assert_eq!(check(&sheet([&[bad], &[], &[], &[], &[]])), refusal(5, 1));
     }
-    assert_eq!(check(&sheet([&[], &[], &[record(0, LABEL, &[1, 2, 2])], &[]])), refusal(9, 3));
+    assert_eq!(check(&sheet([&[], &[], &[record(0, LABEL, &[1, 2, 2])], &[], &[]])), refusal(9, 3));
     let mut sum = record(47, LABEL, &[]);
     sum.extend([9, 9, 9, 9, 9, 9, 9, 9, 9, 9, 10]);
-    assert_eq!(check(&sheet([&[], &[], &[], &[sum]])), refusal(10, 4));
+    assert_eq!(check(&sheet([&[], &[], &[], &[sum], &[]])), refusal(10, 4));
 }

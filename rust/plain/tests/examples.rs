@@ -10,7 +10,19 @@ fn examples_are_as_made() {
     let bytes = |name: &str| &files.iter().find(|file| file.0 == name).expect(name).1;
     assert_eq!(bytes("old-new.notice"), b"TERM 00 NAME\nTERM 01 ALTR 00000004\nTERM 02 NEW\nRANG 00 GONE\n");
     assert_eq!(bytes("old-new.notice").len(), 60);
-    for name in ["old.sheet", "new.sheet", "lift.sheet", "lift-revised.sheet"] {
-        assert_eq!(plain::check(bytes(name)), Ok(()), "{name}");
+    for (name, length) in [("old.sheet", 60), ("new.sheet", 56), ("lift.sheet", 570), ("lift-revised.sheet", 569)] {
+        assert_eq!((plain::check(bytes(name)), bytes(name).len()), (Ok(()), length), "{name}");
     }
+    assert!(bytes("lift-revised.notice").ends_with(b"STAT 01 NAME\nSTAT 02 ALTR\nSTAT 03 GONE\nSTAT 04 NEW\n"));
+    let states = concat!(
+        " 481  states: 4\n",
+        " 482  slot 0 \"LOCKED  \" number 00000003 else 0 flags clear1 clear2 start1 start2\n",
+        " 504  slot 1 \"MOVING  \" number 00000001 else 0 flags none\n",
+        " 526  slot 2 \"FAULT   \" number 00000001 else 0 flags stop1 stop2 trigger\n",
+        " 548  slot 3 \"STOPPED \" number 00000064 else 3 flags last\n",
+    );
+    assert!(bytes("lift.sheet.txt").ends_with(states.as_bytes()));
+    assert!(
+        bytes("lift.commands.txt").starts_with(b"   0  9E 00 00 00 00  select 00\n   5  9F 03 00 00 3C    3C000003\n")
+    );
 }

@@ -142,6 +142,24 @@ fn edges_are_told_apart_exactly_when_some_pair_does() {
 }
 
 #[test]
+fn states_have_the_same_word_exactly_when_no_field_differs() {
+    let mut random = Random(5);
+    let mut state = || {
+        // few values of each field, so that the same ones come often
+        let flags = random.pick(&[0, 1, 0x40, 0x80]);
+        let fields: (u32, u8) = (random.pick(&[0, 1, 0xF_FFFF]), random.pick(&[0, 1, 15]));
+        (fields.0, fields.1, std::array::from_fn(|bit| flags >> bit & 1))
+    };
+    let mut alike = 0;
+    for _ in 0..20_000 {
+        let (old, new) = (state(), state());
+        assert_eq!(old == new, state_word(old.0, old.1, old.2) == state_word(new.0, new.1, new.2), "{old:?} {new:?}");
+        alike += usize::from(old == new);
+    }
+    assert!((200..2_000).contains(&alike), "{alike}");
+}
+
+#[test]
 fn reading_back_gives_what_writes_the_words() {
     let mut random = Random(2);
     for _ in 0..20_000 {
@@ -153,6 +171,11 @@ fn reading_back_gives_what_writes_the_words() {
         assert_eq!(read_edge(&edge_words(rise, fall, neither)), Some((rise, fall, neither)));
         let operations = std::array::from_fn(|_| random.below(10) as u8);
         assert_eq!(read_sum(&sum_words(&operations)), Some(operations));
+        // every word is that of one state
+        let word = if random.one_in(4) { random.mask() } else { random.u32() };
+        let (number, else_state, flags) = read_state(word);
+        assert!(number <= 0xF_FFFF && else_state <= 15 && flags.iter().all(|&flag| flag <= 1));
+        assert_eq!(state_word(number, else_state, flags), word);
     }
     // a range that no sheet may hold is not read, though its tables are known ones
     for (lower, upper, mask) in [(0, 3, 3), (2, 1, 3), (0, 0, 0), (4, 3, 3)] {
@@ -177,7 +200,7 @@ fn reading_back_gives_what_writes_the_words() {
 #[test]
 fn a_stream_is_read_exactly_if_its_sheet_writes_it() {
     let mut random = Random(3);
-    let (mut done, mut refused) = (0, [0; 18]);
+    let (mut done, mut refused) = (0, [0; 19]);
     for _ in 0..40_000 {
         let taken = random.below(9);
         let setup = Setup::random(&mut random, taken);
@@ -215,12 +238,13 @@ fn notices_have_every_line() {
             *met.entry(format!("{} {}", &line[..4], &line[8..line.len().min(12)])).or_default() += 1;
         }
     }
-    let kinds = ["TERM", "RANG", "EDGE", "SUMS"];
-    let verdicts: [&[&str]; 4] = [
+    let kinds = ["TERM", "RANG", "EDGE", "SUMS", "STAT"];
+    let verdicts: [&[&str]; 5] = [
         &["NEW", "GONE", "NAME", "ALTR", "WORD"],
         &["NEW", "GONE", "NAME", "ALTR", "WORD"],
         &["NEW", "GONE", "NAME", "ALTR"],
         &["NEW", "GONE", "NAME", "OPER"],
+        &["NEW", "GONE", "NAME", "ALTR"],
     ];
     for (kind, verdicts) in kinds.iter().zip(verdicts) {
         for verdict in verdicts {

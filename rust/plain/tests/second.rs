@@ -1,6 +1,6 @@
 //! The compiler of the plain implementation gives what the second program (second/) sends, on every stored case, and
 //! reading that back gives the sheet with blank labels and targets cut to their masks.
-use plain::{check, compile, read, SIZE};
+use plain::{check, compile, read, LONGEST_STREAM, SIZE};
 
 fn length(data: &[u8], at: usize) -> usize {
     usize::from(u16::from_le_bytes([data[at], data[at + 1]]))
@@ -38,7 +38,7 @@ fn compile_sends_what_the_second_program_sends() {
         at += 2 + stream.len();
 
         assert_eq!(check(sheet), Ok(()), "case {cases}");
-        let mut out = vec![0x77; 2360];
+        let mut out = vec![0x77; LONGEST_STREAM];
         assert_eq!(compile(sheet, &mut out), Ok(stream.len()), "case {cases}");
         assert!(&out[..stream.len()] == stream, "case {cases}");
         assert!(out[stream.len()..].iter().all(|&byte| byte == 0x77), "case {cases}");
@@ -48,5 +48,5 @@ fn compile_sends_what_the_second_program_sends() {
         cases += 1;
     }
     assert_eq!(at + 2, data.len(), "nothing follows the end mark");
-    assert_eq!(cases, 485);
+    assert_eq!(cases, 522);
 }
