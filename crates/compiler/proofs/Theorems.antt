@@ -44,7 +44,7 @@ use Rattle.kinds.specs.Table as table
 use Rattle.kinds.specs.Table.{TERMS, RANGES, EDGES, SUMS, STATES, sections, kindOf, mostOf, sendingOrder}
 use Rattle.kinds.proofs.Ways.{chains-flat}
 use Rattle.compiler.specs.Items.{lengthsOf, sizeOf, itemSize}
-use Rattle.compiler.specs.Stream.{streamOf, compiled}
+use Rattle.compiler.specs.Stream.{streamOf, longestStream, compiled}
 use Rattle.compiler.specs.Chains.{Loaded, sheetLoads, chainWordsOf}
 use Rattle.compiler.proofs.Joined.{items, sent, stream-sent}
 use Rattle.kinds.proofs.Addresses.{sent-known}
@@ -100,13 +100,13 @@ sent-at-most s ok (k ∷ ks) h =
     let few : length (getD (parse s) k []) * itemSize k ≤ mostOf k * itemSize k = mul-le-mul-right (itemSize k) (part-most s ok k (h 0 (omega arith))) in
     omega (arith, few, sent-at-most s ok ks (λ i l. h (suc i) (omega arith)))
 
--- no sheet makes more than 2,520 bytes, [W18, A9]
-pub at-most : (s : List ℕ) → verdict s ≡ Verdict.Accepted → length (streamOf (parse s)) ≤ 2520
+-- no sheet makes more bytes than the most, [W18, A9]
+pub at-most : (s : List ℕ) → verdict s ≡ Verdict.Accepted → length (streamOf (parse s)) ≤ longestStream
 unfolding longestBy mostOf itemSize lengthsOf table.chainCount table.chainLength kindOf sizeOf
 at-most s ok = rw (stream-sent (parse s), sent-length sendingOrder (parse s)) (sent-at-most s ok sendingOrder sent-known)
 
 -- and the full one makes as many [W18]
-pub full-has : (verdict full ≡ Verdict.Accepted) × (length (streamOf (parse full)) ≡ 2520)
+pub full-has : (verdict full ≡ Verdict.Accepted) × (length (streamOf (parse full)) ≡ longestStream)
 unfolding sentSize itemSize lengthsOf table.chainCount table.chainLength kindOf sizeOf
 full-has = (full-accepted, omega (arith, ap length (stream-sent (parse full)), sent-length sendingOrder (parse full), full-counts))
 

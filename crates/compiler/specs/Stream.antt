@@ -10,6 +10,10 @@ use Rattle.compiler.specs.Chains.{sheetLoads, commandsOf}
 unfoldable pub streamOf : (p : List (List (List ℕ))) → List ℕ
 streamOf p = commandsOf (sheetLoads p)
 
+-- the most bytes that the commands of an accepted sheet have; theorem at-most [W18]
+abbrev pub longestStream : ℕ
+longestStream = 2520
+
 -- a sheet's refusal, else its commands; whether there is room is asked last [W17, A2, O7, D2.1]
 abbrev pub compiled : (sheet : List ℕ) → Reply
 compiled s = unless (verdict s) (streamOf (parse s))

@@ -17,7 +17,7 @@ use Rattle.buffer.specs.declared.Verdict.the-variants as Verdict
 use Rattle.records.specs.Sections.{sections, fieldOf, descriptionOf}
 use Rattle.kinds.specs.Table.{TERMS, RANGES, EDGES, STATES}
 use Rattle.sheet.specs.Reading.{verdict}
-use Rattle.sheet.specs.Parsed.{parse, render}
+use Rattle.sheet.specs.Parsed.{longestSheet, parse, render}
 use Rattle.term.specs.Rule.{termHit}
 use Rattle.term.specs.Model.{runTerm}
 use Rattle.range.specs.Rule.{rangeHit}
@@ -95,7 +95,7 @@ pub accepted-iff-some-sheet-writes-it : (stream : List ℕ) → Bytes stream →
 accepted-iff-some-sheet-writes-it = reader.accepted-exactly
 
 -- the same of the call's answer: given room for the longest sheet, it is a success exactly then [D2.6, A9]
-pub done-iff-some-sheet-writes-it : (stream room : List ℕ) (r : Outcome) (room′ : List ℕ) → Bytes stream → 1571 ≤ length room
+pub done-iff-some-sheet-writes-it : (stream room : List ℕ) (r : Outcome) (room′ : List ℕ) → Bytes stream → longestSheet ≤ length room
     → Delivered (readBack stream) room r room′ → ((n : ℕ) × (r ≡ Done n)) ↔ WrittenBySheet stream
 done-iff-some-sheet-writes-it stream room r room′ b fits d = (
   λ e. reader.accepted-exactly stream b .0 (accepted (streamVerdict stream) (e .0) (sym (e .1) ∙ d .answer)),

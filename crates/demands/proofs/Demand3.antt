@@ -37,7 +37,7 @@ use Rattle.notice.specs.declared.Noticed.{Noticed}
 use Rattle.notice.specs.declared.Noticed.the-variants.{Done}
 use Rattle.notice.specs.Findings.{line}
 use Rattle.notice.specs.Text.{render}
-use Rattle.notice.specs.Notice.{noticeLines, noticeText, NoticeGiven}
+use Rattle.notice.specs.Notice.{noticeLines, noticeText, longestNotice, NoticeGiven}
 use Rattle.notice.specs.Shared.{recordOf, Has, Shared, descriptionAt}
 use Rattle.demands.specs.Apart.{SomeInputTells}
 use Rattle.demands.specs.Written.{linesIn, written, Stands, AlterationIn}
@@ -90,7 +90,7 @@ equal-state-words-iff-same-fields = words.states-same
 
 -- of any two accepted sheets, and the bytes that the call wrote, given room for the longest notice
 module _ (old new : List ℕ) (bo : Bytes old) (bn : Bytes new) (ao : verdict old ≡ Accepted) (an : verdict new ≡ Accepted)
-    (out : List ℕ) (r : Noticed) (out′ : List ℕ) (enough : 2172 ≤ length out) (given : NoticeGiven old new out r out′) where
+    (out : List ℕ) (r : Noticed) (out′ : List ℕ) (enough : longestNotice ≤ length out) (given : NoticeGiven old new out r out′) where
   -- the notice is written whole, and its length is answered [N1, A9]
   pub notice-is-written : (r ≡ Done (length (noticeText old new))) × (written r out′ ≡ noticeText old new)
   notice-is-written =

@@ -1,6 +1,6 @@
 -- The notice that the rules give whole, byte for byte, and the slips that a notice must not make, each computed. Assumes
 -- nothing.
-use Prim.Native.Nat.{ℕ}
+use Prim.Native.Nat.{ℕ, _-_}
 use mathlib.Core.Bool.{Bool, true, _&&_}
 use mathlib.Core.List.{List, [], _∷_, _++_}
 use lib.Count.{trailingZeros}
@@ -10,7 +10,7 @@ use Rattle.peek.specs.Bytes.{u32At}
 use Rattle.lines.specs.Line.{flipLine}
 use Rattle.lines.specs.Gather.{gathered, scattered, dropLowest}
 use Rattle.compare.specs.Same.{same}
-use Rattle.records.specs.Sections.{fieldBytes, kindOf, mostOf, descriptionSize}
+use Rattle.records.specs.Sections.{sections, fieldBytes, kindOf, mostOf, descriptionSize}
 use Rattle.records.specs.Records.{recordsFrom, find}
 use Rattle.sheet.specs.Parsed.{joined, render, sectionsFrom, parse}
 use Rattle.kinds.specs.Table.{nameOf, changeOf}
@@ -26,10 +26,10 @@ use Rattle.notice.specs.Notice.{linesFrom, sectionsLines, noticeLines, noticeTe
 
 -- a sheet of these terms and ranges, one of these sums and states, and a record of a slot, a label and numbers
 sheetOf : (terms ranges : List (List ℕ)) → List ℕ
-sheetOf terms ranges = render (terms ∷ ranges ∷ [] ∷ [] ∷ [] ∷ [])
+sheetOf terms ranges = render (terms ∷ ranges ∷ replicate (sections - 2) [])
 
 programmeOf : (sums states : List (List ℕ)) → List ℕ
-programmeOf sums states = render ([] ∷ [] ∷ [] ∷ sums ∷ states ∷ [])
+programmeOf sums states = render ([] ∷ [] ∷ [] ∷ sums ∷ states ∷ replicate (sections - 5) [])
 
 recordOf : (slot : ℕ) (label numbers : List ℕ) → List ℕ
 recordOf slot label numbers = slot ∷ (label ++ fieldBytes numbers)

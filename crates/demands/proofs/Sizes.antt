@@ -19,7 +19,7 @@ use Rattle.compare.specs.Same.{same}
 use Rattle.records.specs.Sections.{labelSize, fieldBytes, kindOf, mostOf, descriptionSize, descriptionFault}
 use Rattle.sheet.specs.Reading.{recordFault, recordsVerdict, countVerdict, sectionVerdict, sectionsVerdict, verdict}
 use Rattle.records.specs.Records.{recordsFrom, find}
-use Rattle.sheet.specs.Parsed.{joined, render, sectionsFrom, parse}
+use Rattle.sheet.specs.Parsed.{joined, render, longestSheet, sectionsFrom, parse}
 use Rattle.sheet.proofs.Examples.{full}
 use Rattle.sheet.proofs.Theorems as sheet
 use Rattle.term.specs.Telling.{termTelling}
@@ -29,10 +29,10 @@ use Rattle.range_telling.specs.Telling.{turnValue, turnSample, tellLine, firstD
 use Rattle.edge.specs.Telling.{without, tellBy}
 use Rattle.notice.specs.Text as text
 use Rattle.notice.specs.Findings.{sharedLines, slotLines}
-use Rattle.notice.specs.Notice.{linesFrom, sectionsLines, noticeLines, noticeText, NoticeGiven}
+use Rattle.notice.specs.Notice.{linesFrom, sectionsLines, noticeLines, noticeText, longestNotice, NoticeGiven}
 use Rattle.notice.specs.declared.Noticed.{Noticed}
 use Rattle.notice.specs.declared.Noticed.the-variants as Noticed
-use Rattle.compiler.specs.Stream.{streamOf, compiled}
+use Rattle.compiler.specs.Stream.{streamOf, longestStream, compiled}
 use Rattle.reader.specs.Judging.{streamVerdict}
 use Rattle.reader.specs.Back.{sheetIn, readBack}
 use Rattle.reader.proofs.Theorems as reader
@@ -99,26 +99,26 @@ pub most-commands-reached : (verdict full ≡ Accepted) × (length (streamOf (pa
 most-commands-reached = compiler.full-has
 
 -- a program that reads this much of a file judges all of it
-pub enough-of-a-sheet : (s : List ℕ) → verdict (take 1572 s) ≡ verdict s
+pub enough-of-a-sheet : (s : List ℕ) → verdict (take (longestSheet + 1) s) ≡ verdict s
 enough-of-a-sheet = sheet.enough
 
 -- ---- room enough, whatever is handed in: what is refused needs none (Demand1), what is accepted is written [A9]
 
--- 2,520 bytes for every sheet that is compiled [A9, W18]
-pub room-for-every-stream : (s room : List ℕ) (r : Outcome) (room′ : List ℕ) → 2520 ≤ length room → Delivered (compiled s) room r room′
+-- for every sheet that is compiled [A9, W18]
+pub room-for-every-stream : (s room : List ℕ) (r : Outcome) (room′ : List ℕ) → longestStream ≤ length room → Delivered (compiled s) room r room′
     → verdict s ≡ Accepted → r ≡ Outcome.Done (length (streamOf (parse s)))
 room-for-every-stream s room r room′ fits d ok =
     compiler.accepted-written s room r room′ ok (omega (arith, fits, compiler.at-most s ok)) d .0
 
--- 1,571 for every stream that is read [A9, S8]
-pub room-for-every-sheet : (stream room : List ℕ) (r : Outcome) (room′ : List ℕ) → Bytes stream → 1571 ≤ length room
+-- for every stream that is read [A9, S8]
+pub room-for-every-sheet : (stream room : List ℕ) (r : Outcome) (room′ : List ℕ) → Bytes stream → longestSheet ≤ length room
     → Delivered (readBack stream) room r room′ → streamVerdict stream ≡ Accepted → r ≡ Outcome.Done (length (render (sheetIn stream)))
 room-for-every-sheet stream room r room′ b fits d ok =
     let back = render (sheetIn stream) in
     answered back room r room′ (omega (arith, fits, sheet.at-most back (reader.read-accepted stream b ok))) (rw ok at d)
 
--- 2,172 for every notice [A9, N11]
-pub room-for-every-notice : (old new out : List ℕ) (r : Noticed) (out′ : List ℕ) → 2172 ≤ length out → NoticeGiven old new out r out′
+-- for every notice [A9, N11]
+pub room-for-every-notice : (old new out : List ℕ) (r : Noticed) (out′ : List ℕ) → longestNotice ≤ length out → NoticeGiven old new out r out′
     → verdict old ≡ Accepted → verdict new ≡ Accepted → r ≡ Noticed.Done (length (noticeText old new))
 room-for-every-notice old new out r out′ fits g a e =
     g .answer ∙ simp (a, e, le-leb (length (noticeText old new)) (length out) (omega (arith, fits, notice.at-most old new)))

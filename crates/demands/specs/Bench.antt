@@ -1,7 +1,7 @@
 -- The examples that the rules mark as proved in one table.
 use mathlib.Core.Bool.{Bool, true, false, cond, _&&_}
 use mathlib.Core.List.{List, [], _∷_, _++_}
-use Prim.Native.Nat.{ℕ}
+use Prim.Native.Nat.{ℕ, _-_}
 use lib.Dec.{eqb}
 use lib.ListN.{replicate}
 use Rattle.lines.specs.Gather.{gathered}
@@ -12,7 +12,7 @@ use Rattle.term.specs.Words.{termWords}
 use Rattle.range.specs.Words.{sentWords}
 use Rattle.range.specs.Model.{runRange}
 use Rattle.edge.specs.Words.{edgeWords}
-use Rattle.records.specs.Sections.{labelSize, fieldBytes}
+use Rattle.records.specs.Sections.{sections, labelSize, fieldBytes}
 use Rattle.sheet.specs.Parsed.{render}
 use Rattle.sheet.specs.Reading.{verdict}
 use Rattle.notice.specs.Notice.{noticeText}
@@ -34,7 +34,7 @@ pub data Example : Type 0 where
 
 -- a sheet with one range, in slot 0, and a blank label [E6, E7]
 unfoldable pub sheetWith : (lower upper mask : ℕ) → List ℕ
-sheetWith lower upper mask = render ([] ∷ ((0 ∷ (replicate labelSize 0x20 ++ fieldBytes (lower ∷ upper ∷ mask ∷ []))) ∷ []) ∷ [] ∷ [] ∷ [] ∷ [])
+sheetWith lower upper mask = render ([] ∷ ((0 ∷ (replicate labelSize 0x20 ++ fieldBytes (lower ∷ upper ∷ mask ∷ []))) ∷ []) ∷ replicate (sections - 2) [])
 
 -- the notice `RANG 00 WORD` [E7]
 abbrev pub wordLine : List ℕ

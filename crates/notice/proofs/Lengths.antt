@@ -31,7 +31,7 @@ use Rattle.notice.specs.declared.Finding.the-variants.{New, Gone, Name, 
 use Rattle.notice.specs.declared.Line.{Line}
 use Rattle.notice.specs.Text.{changeText, findingText, renderAll}
 use Rattle.notice.specs.Findings.{line, unlessSame, sharedLines, slotLines}
-use Rattle.notice.specs.Notice.{linesFrom, sectionsLines, noticeLines, noticeText}
+use Rattle.notice.specs.Notice.{linesFrom, sectionsLines, noticeLines, noticeText, longestNotice}
 use Rattle.notice.proofs.Lines.{renderAll-append, one-length}
 use Rattle.notice.proofs.Slots.{shared-length}
 
@@ -146,11 +146,11 @@ sections-length (suc n) k p q =
     rw (renderAll-append now rest, length-append (renderAll now) (renderAll rest))
     (omega (arith, lines-length k (mostOf k) 0 (getD p k []) (getD q k []), sections-length n (k + 1) p q))
 
-all-text : mostText sections 0 ≡ 2172
+all-text : mostText sections 0 ≡ longestNotice
 unfolding mostText slotMost mostOf kindOf
 all-text = refl
 
--- no notice has more than 2,172 bytes [N11, A9]
-pub at-most : (old new : List ℕ) → length (noticeText old new) ≤ 2172
+-- no notice is longer than the longest [N11, A9]
+pub at-most : (old new : List ℕ) → length (noticeText old new) ≤ longestNotice
 unfolding noticeText noticeLines
 at-most old new = omega (arith, sections-length sections 0 (parse old) (parse new), all-text)

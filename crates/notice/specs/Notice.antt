@@ -33,9 +33,13 @@ sectionsLines (suc n) k old new = linesFrom k (mostOf k) 0 (getD old k []) (getD
 unfoldable pub noticeLines : (old new : List ℕ) → List Line
 noticeLines old new = sectionsLines sections 0 (parse old) (parse new)
 
--- its bytes, at most 2,172; those of one example are given whole (demands, NoticeExamples) [N1, N11, E11]
+-- its bytes; those of one example are given whole (demands, NoticeExamples) [N1, E11]
 unfoldable pub noticeText : (old new : List ℕ) → List ℕ
 noticeText old new = renderAll (noticeLines old new)
+
+-- the most of them that there can be; theorem at-most [N11]
+abbrev pub longestNotice : ℕ
+longestNotice = 2172
 
 -- the old sheet's refusal, else the new sheet's, else whether there is room: 12 is of neither [O4, O7, A3, A4, F12]
 abbrev pub answerOf : (old new : Verdict) (text : List ℕ) (room : ℕ) → Noticed

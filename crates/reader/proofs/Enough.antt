@@ -1,4 +1,4 @@
--- How much of a stream the reader looks at: an accepted stream has at most 2,520 bytes, and of any other one whole
+-- How much of a stream the reader looks at: an accepted stream has at most `longestStream` bytes, and of any other one whole
 -- command more settles the refusal. Assumes nothing.
 use Prim.Native.Nat.{ℕ, zero, suc, _+_, _*_, _≤_, _<_, _-_}
 use mathlib.Core.Path.{_≡_, refl, sym, ap, ap₂, _∙_}
@@ -22,6 +22,7 @@ use Rattle.command.specs.Reading.{number, commandVerdict, loadsVerdict, wordsIn
 use Rattle.records.specs.Sections.{sections, kindOf, mostOf}
 use Rattle.sheet.specs.Parsed.{render}
 use Rattle.sheet.proofs.Longest.{drop-take}
+use Rattle.compiler.specs.Stream.{longestStream}
 use Rattle.compiler.specs.Items.{addressOf, lengthsOf, sizeOf, itemSize}
 use Rattle.compiler.specs.Chains.{wordsRead}
 use Rattle.kinds.specs.Table.{slotFrom, slotAt, sectionFrom, sectionAt}
@@ -132,7 +133,7 @@ module _ (low a : ℕ) (h : low ≤ a) (known : sectionAt a < sections) where
       omega (arith, left-next a small)
 
 -- all the items that there are
-all-items : left 0 ≡ 2520
+all-items : left 0 ≡ longestStream
 unfolding left sizesFrom sizeAt itemSize sizeOf lengthsOf chainCount chainLength kindOf sectionAt sectionFrom slotAt slotFrom mostOf addressOf
 all-items = refl
 
@@ -191,17 +192,17 @@ accepted-fits =
       length-drop (stepSize s) s,
     ))
 
--- an accepted stream has at most 2,520 bytes
-pub accepted-short : (s : List ℕ) → streamVerdict s ≡ Accepted → length s ≤ 2520
+-- an accepted stream is no longer than the longest
+pub accepted-short : (s : List ℕ) → streamVerdict s ≡ Accepted → length s ≤ longestStream
 unfolding streamVerdict
 accepted-short s e = rw all-items at (accepted-fits s 0 0 e)
 
 -- the verdict, and so the answer, is settled by the first 2,365 bytes
-pub prefix-verdict : (s : List ℕ) (n : ℕ) → 2525 ≤ n → streamVerdict (take n s) ≡ streamVerdict s
+pub prefix-verdict : (s : List ℕ) (n : ℕ) → longestStream + 5 ≤ n → streamVerdict (take n s) ≡ streamVerdict s
 unfolding streamVerdict
 prefix-verdict s n h = prefix-judged s 0 0 n (rw all-items h)
 
-pub prefix-read : (s : List ℕ) (n : ℕ) → 2525 ≤ n → readBack (take n s) ≡ readBack s
+pub prefix-read : (s : List ℕ) (n : ℕ) → longestStream + 5 ≤ n → readBack (take n s) ≡ readBack s
 prefix-read s n h = rw (prefix-verdict s n h) (go (streamVerdict s) refl)
   where
     go : (v : Verdict) → streamVerdict s ≡ v → unless v (render (sheetIn (take n s))) ≡ unless v (render (sheetIn s))

@@ -1,5 +1,5 @@
 -- What is promised of reading commands back, each under the rule that asks for it. Assumes nothing.
-use Prim.Native.Nat.{ℕ, _≤_}
+use Prim.Native.Nat.{ℕ, _+_, _≤_}
 use mathlib.Core.Path.{_≡_, refl, sym, ap, _∙_, subst}
 use mathlib.Core.Bool.{Bool, true, false, cond}
 use mathlib.Core.List.{List}
@@ -18,7 +18,7 @@ use Rattle.buffer.proofs.Faults.{unless-bytes, no-refusal}
 use Rattle.sheet.specs.Reading.{verdict}
 use Rattle.sheet.specs.Parsed.{parse, render}
 use Rattle.sheet.proofs.Parsed.{render-accepted, parse-render, accepted-well-formed}
-use Rattle.compiler.specs.Stream.{streamOf, compiled}
+use Rattle.compiler.specs.Stream.{streamOf, longestStream, compiled}
 use Rattle.reader.specs.Judging.{streamVerdict}
 use Rattle.reader.specs.Back.{sheetIn, readBack}
 use Rattle.reader.specs.Blanked.{blanked}
@@ -87,11 +87,11 @@ read-says stream b room room′ r d = go (streamVerdict stream) refl d
 
 -- ---- how much of a stream the reader looks at
 
--- no accepted stream has more than 2,520 bytes [W18]
-pub accepted-most : (stream : List ℕ) → streamVerdict stream ≡ Accepted → length stream ≤ 2520
+-- no accepted stream is longer than the longest [W18]
+pub accepted-most : (stream : List ℕ) → streamVerdict stream ≡ Accepted → length stream ≤ longestStream
 accepted-most = accepted-short
 
 -- so a program that hands over the first 2,365 bytes of a file, one whole command more, gets the whole file's answer
 -- [A9]
-pub enough : (stream : List ℕ) → readBack (take 2525 stream) ≡ readBack stream
-enough stream = prefix-read stream 2525 (le-refl 2525)
+pub enough : (stream : List ℕ) → readBack (take (longestStream + 5) stream) ≡ readBack stream
+enough stream = prefix-read stream (longestStream + 5) (le-refl (longestStream + 5))

@@ -16,7 +16,7 @@ use Rattle.range.specs.Rule.{rangeFault}
 use Rattle.records.specs.Sections.{fieldBytes, kindOf, mostOf, descriptionSize, descriptionFault, labelSize}
 use Rattle.sheet.specs.Reading.{recordFault, recordsVerdict, countVerdict, sectionVerdict, sectionsVerdict, verdict}
 use Rattle.records.specs.Records.{recordsFrom}
-use Rattle.sheet.specs.Parsed.{joined, render, sectionsFrom, parse}
+use Rattle.sheet.specs.Parsed.{joined, render, longestSheet, sectionsFrom, parse}
 use Rattle.sheet.proofs.Descriptions.{sheetWith, recordWith, onlySection, sheet-with}
 use Rattle.peek.proofs.FieldLaws.{fields-length}
 use Rattle.edge.specs.Description as edge-kind
@@ -159,7 +159,7 @@ unfolding three descriptionSize kindOf
 widest-sheet = sheet-with 1 (three 1 0xFFFFFFFF 0xFFFFFFFF) (lit< tt) (fields-length (1 ∷ 0xFFFFFFFF ∷ 0xFFFFFFFF ∷ [])) widest
 
 -- the longest sheet
-pub full-length : length full ≡ 1571
+pub full-length : length full ≡ longestSheet
 unfolding labelled blank term sum three state sheet slots full joined render fieldBytes
 full-length = refl
 

@@ -1,5 +1,5 @@
 -- What is promised of the set-up sheet, each under the rule that asks for it. Assumes nothing.
-use Prim.Native.Nat.{ℕ, _≤_, _<_}
+use Prim.Native.Nat.{ℕ, _+_, _≤_, _<_}
 use mathlib.Core.List.{List, []}
 use mathlib.Core.Logic.{_↔_}
 use mathlib.Core.Path.{_≡_, refl, sym, ap, _∙_}
@@ -12,7 +12,7 @@ use Rattle.records.specs.Sections.{sections, kindOf, mostOf, descriptionSize, s
 use Rattle.sheet.specs.Reading.{recordsVerdict, countVerdict, sectionVerdict, sectionsVerdict, verdict}
 use Rattle.records.specs.Records.{recordAt, recordCount, find, front}
 use Rattle.sheet.specs.Parts.{sectionUnchecked, sectionOf}
-use Rattle.sheet.specs.Parsed.{joined, render, Faultless, WellFormed, Arranged, parse, AcceptedDescription}
+use Rattle.sheet.specs.Parsed.{joined, render, Faultless, WellFormed, Arranged, longestSheet, parse, AcceptedDescription}
 use Rattle.kinds.specs.Table as kinds
 use Rattle.sheet.proofs.Descriptions.{accepted-description}
 use Rattle.sheet.proofs.Examples.{full, full-length, full-accepted}
@@ -45,12 +45,12 @@ wellformed-accepted = render-accepted
 pub parse-rendered : (p : List (List (List ℕ))) → WellFormed p → parse (render p) ≡ p
 parse-rendered = parse-render
 
--- no sheet has more than 1,571 bytes, and one has as many [S8]
-pub at-most : (s : List ℕ) → verdict s ≡ Accepted → length s ≤ 1571
+-- no sheet is longer than the longest, and one is as long [S8]
+pub at-most : (s : List ℕ) → verdict s ≡ Accepted → length s ≤ longestSheet
 unfolding longestFrom mostOf descriptionSize kindOf
 at-most s ok = longest s ok
 
-pub one-has : (verdict full ≡ Accepted) × (length full ≡ 1571)
+pub one-has : (verdict full ≡ Accepted) × (length full ≡ longestSheet)
 one-has = (full-accepted, full-length)
 
 -- five bytes, all 0, are a sheet [S8]
@@ -58,10 +58,10 @@ pub five-zeros : verdict (replicate 5 0) ≡ Accepted
 unfolding verdict sectionsVerdict sectionVerdict countVerdict recordsVerdict mostOf descriptionSize kindOf
 five-zeros = refl
 
--- so a program that reads 1,572 bytes of a file judges the whole file [A9]
-pub enough : (s : List ℕ) → verdict (take 1572 s) ≡ verdict s
+-- so a program that reads one byte more of a file judges the whole file [A9]
+pub enough : (s : List ℕ) → verdict (take (longestSheet + 1) s) ≡ verdict s
 unfolding longestFrom mostOf descriptionSize kindOf
-enough s = enough-read 1572 s (lit< tt)
+enough s = enough-read (longestSheet + 1) s (lit< tt)
 
 -- the place of a sheet's refusal is an offset, at most the sheet's length [F1, F11]
 pub refused-within : (s : List ℕ) (number place : ℕ) → verdict s ≡ Refused number place → place ≤ length s

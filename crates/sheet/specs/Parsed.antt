@@ -52,6 +52,10 @@ pub record Arranged (s : List ℕ) : Type 0 where
   pub formed : WellFormed parts
   pub is : render parts ≡ s
 
+-- the most bytes that an accepted sheet has: all sections with their most; theorem at-most [S8]
+abbrev pub longestSheet : ℕ
+longestSheet = 1571
+
 -- the first n sections from section k on, as the counts there say [S12]
 unfoldable pub sectionsFrom : ℕ → ℕ → List ℕ → List (List (List ℕ))
 sectionsFrom zero k rest = []
