@@ -1,5 +1,5 @@
 -- Each record's item stands in the stream, and the chain words read there are those of its description. Assumes nothing.
-use Prim.Native.Nat.{ℕ, suc, _+_, _≤_, _<_}
+use Prim.Native.Nat.{ℕ, suc, _+_, _<_}
 use mathlib.Core.Path.{_≡_, refl, sym, ap, _∙_}
 use mathlib.Core.List.{List, [], _∷_, _++_, append-assoc, map, flatten}
 use native.Mathlib.Omega.{arith}

@@ -2,27 +2,22 @@
 -- from item to item in sending order. What holds of a section is shown once for the table of kinds. Assumes nothing.
 use Prim.Native.Nat.{ℕ, zero, suc, _+_, _*_, _-_, _≤_, _<_, _^_}
 use mathlib.Core.Path.{_≡_, refl, sym, ap, ap₂, _∙_}
-use mathlib.Core.Bool.{Bool, true, false, cond, not, _&&_, _||_, true≢false}
 use mathlib.Core.List.{List, [], _∷_, _++_, map}
 use native.Mathlib.Decide.{decLt}
 use native.Mathlib.Omega.{arith}
 use native.Mathlib.Nat.{zero-mul}
-use borrow.Author.Tests.{lt-ltb, eq-eqb}
-use lib.Dec.{T, eqb, ltb, leb, eqb→eq, ltb→lt, leb→le, lit<, lit≤}
+use lib.Dec.{lit<}
 use lib.Seq.{drop-drop, length-take-le}
 use lib.ListN.{length, getD, take, drop, replicate, length-append, length-drop}
-use Rattle.lines.proofs.Computed.{everyBelow, every-below}
-use Rattle.lines.proofs.Truth.{and-left, and-right, or-true}
 use Rattle.command.specs.Command.{chain, Words}
 use Rattle.command.proofs.Written.{length-chain}
 use Rattle.records.specs.Sections.{sections, kindOf, mostOf, slotOf, descriptionOf}
 use Rattle.kinds.specs.Table.{wordsOf, chainCount, chainLength, pieces}
-use Rattle.kinds.proofs.Rows.{past, of-any}
+use Rattle.kinds.proofs.Rows.{past, at-most}
 use Rattle.kinds.proofs.Ways as ways
 pub use Rattle.kinds.proofs.Ways.{chains-lengths}
 use Rattle.compiler.specs.Items.{addressOf, lengthsOf, chainsOf, sizeOf, itemSize}
 use Rattle.compiler.proofs.Joined.{chainsFrom, item}
-use Rattle.kinds.specs.Table.{sendingOrder}
 
 -- ---- words
 
@@ -76,8 +71,7 @@ item-size k = size-chains (chainCount k) (chainLength k)
 -- no item is long
 pub item-bound : (k : ℕ) → itemSize k ≤ 1024
 unfolding itemSize lengthsOf chainCount chainLength sizeOf
-item-bound k =
-    of-any (λ x. sizeOf (replicate (x .chains) (x .each)) ≤ 1024) (lit≤ tt, (lit≤ tt, (lit≤ tt, (lit≤ tt, tt)))) (lit≤ tt) k
+item-bound = at-most (λ x. sizeOf (replicate (x .chains) (x .each))) 1024 tt
 
 -- what is sent for words that lie in longer room
 pub pieces-front : (c n : ℕ) (ws more : List ℕ) → length ws ≡ c * n → pieces (replicate c n) (ws ++ more) ≡ pieces (replicate c n) ws

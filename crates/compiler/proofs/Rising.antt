@@ -80,7 +80,7 @@ well-ordered p w k h = rw (parse-render p w) at (section-ordered (render p) k h 
 by-climbs : (p : List (List (List ℕ))) → WellFormed p → (n i : ℕ) → i + n ≡ length sendingOrder
     → Climbs (startOf i) 0x80 (addresses (loadedBy (drop i sendingOrder) p))
 unfolding loadedBy
-by-climbs p w zero i e = let four : i ≡ length sendingOrder = omega arith in rw four (Climbs.done (lit≤ tt))
+by-climbs p w zero i e = let all : i ≡ length sendingOrder = omega arith in rw all (Climbs.done (lit≤ tt))
 by-climbs p w (suc n) i e =
     let k = sentAs i in
     let hi : i < length sendingOrder = omega arith in
@@ -95,4 +95,4 @@ by-climbs p w (suc n) i e =
 pub stream-climbs : (p : List (List (List ℕ))) → WellFormed p → (i j : ℕ) → i < j → j < length (loadedBy sendingOrder p)
     → getD (map (λ (c : Loaded). c .address) (loadedBy sendingOrder p)) i 0 < getD (map (λ (c : Loaded). c .address) (loadedBy sendingOrder p)) j 0
 stream-climbs p w i j h l =
-    let cs = loadedBy sendingOrder p in climbs-rise (by-climbs p w 4 0 refl) i j 0 h (rw (length-map cs (λ (c : Loaded). c .address)) l)
+    let cs = loadedBy sendingOrder p in climbs-rise (by-climbs p w (length sendingOrder) 0 refl) i j 0 h (rw (length-map cs (λ (c : Loaded). c .address)) l)

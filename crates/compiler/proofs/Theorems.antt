@@ -1,7 +1,7 @@
 -- What is promised of the compiler, each under the rule that asks for it. Assumes nothing.
 use Prim.Native.Nat.{ℕ, suc, _+_, _*_, _≤_, _<_}
-use mathlib.Core.Path.{_≡_, refl, ap, _∙_}
-use mathlib.Core.List.{List, [], _∷_, _++_, map}
+use mathlib.Core.Path.{_≡_, refl, ap, ap₂, _∙_}
+use mathlib.Core.List.{List, [], _∷_, map}
 use native.Mathlib.Nat.{mul-le-mul-right}
 use native.Mathlib.Omega.{arith}
 use borrow.Author.Tests.{lt-leb}
@@ -24,19 +24,24 @@ use Rattle.sheet.proofs.Examples.{full, full-accepted, full-counts}
 use Rattle.sheet.proofs.Theorems.{section-count, section-record}
 use Rattle.term.specs.Model.{runTerm}
 use Rattle.term.specs.Description as term-kind
+use Rattle.term.specs.Rule as term-rule
 use Rattle.term.proofs.Theorems as term
 use Rattle.range.specs.Model.{runRange}
 use Rattle.range.specs.Description as range-kind
+use Rattle.range.specs.Rule as range-rule
 use Rattle.range.proofs.Theorems as range
 use Rattle.edge.specs.Model.{runEdge}
 use Rattle.edge.specs.Description as edge-kind
+use Rattle.edge.specs.Rule as edge-rule
 use Rattle.edge.proofs.Theorems as edge
 use Rattle.sum.specs.Meaning.{sumMeans}
 use Rattle.sum.specs.Model.{runSum}
 use Rattle.sum.specs.Description as sum-kind
 use Rattle.sum.proofs.Theorems as sum
+use Rattle.state.specs.Words.{wordsOf}
+use Rattle.state.specs.Description as state-kind
 use Rattle.kinds.specs.Table as table
-use Rattle.kinds.specs.Table.{TERMS, RANGES, EDGES, SUMS, sections, kindOf, mostOf, hitOf, sendingOrder}
+use Rattle.kinds.specs.Table.{TERMS, RANGES, EDGES, SUMS, STATES, sections, kindOf, mostOf, sendingOrder}
 use Rattle.kinds.proofs.Ways.{chains-flat}
 use Rattle.compiler.specs.Items.{lengthsOf, sizeOf, itemSize}
 use Rattle.compiler.specs.Stream.{streamOf, compiled}
@@ -77,44 +82,33 @@ unfoldable pub longestBy : List ℕ → ℕ
 longestBy [] = 0
 longestBy (k ∷ ks) = mostOf k * itemSize k + longestBy ks
 
+-- how long they are
+sentSize : List ℕ → List (List (List ℕ)) → ℕ
+sentSize [] p = 0
+sentSize (k ∷ ks) p = length (getD p k []) * itemSize k + sentSize ks p
+
+sent-length : (order : List ℕ) (p : List (List (List ℕ))) → length (sent order p) ≡ sentSize order p
+unfolding sent sentSize
+sent-length [] p = refl
+sent-length (k ∷ ks) p = length-append (items k (getD p k [])) (sent ks p) ∙ ap₂ _+_ (items-length k (getD p k [])) (sent-length ks p)
+
 sent-at-most : (s : List ℕ) → verdict s ≡ Verdict.Accepted → (order : List ℕ) → ((i : ℕ) → i < length order → getD order i 0 < sections)
-    → length (sent order (parse s)) ≤ longestBy order
-unfolding sent longestBy
+    → sentSize order (parse s) ≤ longestBy order
+unfolding sentSize longestBy
 sent-at-most s ok [] h = omega arith
 sent-at-most s ok (k ∷ ks) h =
-    let rs = getD (parse s) k [] in
-    let few : length rs * itemSize k ≤ mostOf k * itemSize k = mul-le-mul-right (itemSize k) (part-most s ok k (h 0 (omega arith))) in
-    omega (arith, few, items-length k rs, length-append (items k rs) (sent ks (parse s)), sent-at-most s ok ks (λ i l. h (suc i) (omega arith)))
+    let few : length (getD (parse s) k []) * itemSize k ≤ mostOf k * itemSize k = mul-le-mul-right (itemSize k) (part-most s ok k (h 0 (omega arith))) in
+    omega (arith, few, sent-at-most s ok ks (λ i l. h (suc i) (omega arith)))
 
--- no sheet makes more than 2,360 bytes, [W18, A9]
-pub at-most : (s : List ℕ) → verdict s ≡ Verdict.Accepted → length (streamOf (parse s)) ≤ 2360
+-- no sheet makes more than 2,520 bytes, [W18, A9]
+pub at-most : (s : List ℕ) → verdict s ≡ Verdict.Accepted → length (streamOf (parse s)) ≤ 2520
 unfolding longestBy mostOf itemSize lengthsOf table.chainCount table.chainLength kindOf sizeOf
-at-most s ok = rw (stream-sent (parse s)) (sent-at-most s ok sendingOrder sent-known)
+at-most s ok = rw (stream-sent (parse s), sent-length sendingOrder (parse s)) (sent-at-most s ok sendingOrder sent-known)
 
 -- and the full one makes as many [W18]
-pub full-has : (verdict full ≡ Verdict.Accepted) × (length (streamOf (parse full)) ≡ 2360)
-unfolding sent itemSize lengthsOf table.chainCount table.chainLength kindOf sizeOf
-full-has = (
-  full-accepted,
-  let p = parse full in
-      let a = items 0 (getD p 0 []) in
-      let b = items 1 (getD p 1 []) in
-      let c = items 2 (getD p 2 []) in
-      let d = items 3 (getD p 3 []) in
-      omega (
-        arith,
-        ap length (stream-sent p),
-        length-append a (b ++ (c ++ (d ++ []))),
-        length-append b (c ++ (d ++ [])),
-        length-append c (d ++ []),
-        length-append d [],
-        items-length 0 (getD p 0 []),
-        items-length 1 (getD p 1 []),
-        items-length 2 (getD p 2 []),
-        items-length 3 (getD p 3 []),
-        full-counts,
-      ),
-)
+pub full-has : (verdict full ≡ Verdict.Accepted) × (length (streamOf (parse full)) ≡ 2520)
+unfolding sentSize itemSize lengthsOf table.chainCount table.chainLength kindOf sizeOf
+full-has = (full-accepted, omega (arith, ap length (stream-sent (parse full)), sent-length sendingOrder (parse full), full-counts))
 
 -- ---- order
 
@@ -126,21 +120,21 @@ addresses-rise = stream-climbs
 -- ---- the chain words of a description run in the model
 
 -- over a pattern's chain words the model hits exactly when the plain rule does [D2.2]
-pub term-hits : (d : List ℕ) (sample : ℕ) → runTerm (chainWordsOf TERMS d) sample ≡ hitOrMiss (hitOf TERMS d (Sample sample))
-unfolding table.wordsOf hitOf kindOf term-kind.words
+pub term-hits : (d : List ℕ) (sample : ℕ) → runTerm (chainWordsOf TERMS d) sample ≡ hitOrMiss (term-rule.hit (term-kind.fromBytes d) (Sample sample))
+unfolding table.wordsOf kindOf term-kind.words
 term-hits d sample = ap (λ (ws : List ℕ). runTerm ws sample) (chains-flat TERMS d) ∙ term.run-hits (term-kind.fromBytes d) sample
 
 -- the same over an accepted range's, whose lower is therefore 1 or more [D2.3]
 pub range-hits : (d : List ℕ) → AcceptedDescription RANGES d → (sample : ℕ)
-    → runRange (chainWordsOf RANGES d) sample ≡ hitOrMiss (hitOf RANGES d (Sample sample))
-unfolding table.wordsOf hitOf kindOf range-kind.words
+    → runRange (chainWordsOf RANGES d) sample ≡ hitOrMiss (range-rule.hit (range-kind.fromBytes d) (Sample sample))
+unfolding table.wordsOf kindOf range-kind.words
 range-hits d a sample =
     ap (λ (ws : List ℕ). runRange ws sample) (chains-flat RANGES d) ∙ range.run-hits (range-kind.fromBytes d) (description-accepted RANGES (lit< tt) d a) sample
 
 -- the same over an edge's, for an earlier and a later sample [D2.4]
 pub edge-hits : (d : List ℕ) (earlier later : ℕ)
-    → runEdge (chainWordsOf EDGES d) earlier later ≡ hitOrMiss (hitOf EDGES d (Samples earlier later))
-unfolding table.wordsOf hitOf kindOf edge-kind.words
+    → runEdge (chainWordsOf EDGES d) earlier later ≡ hitOrMiss (edge-rule.hit (edge-kind.fromBytes d) (Samples earlier later))
+unfolding table.wordsOf kindOf edge-kind.words
 edge-hits d e l = ap (λ (ws : List ℕ). runEdge ws e l) (chains-flat EDGES d) ∙ edge.run-hits (edge-kind.fromBytes d) e l
 
 -- a sum's words do what its operations mean in the source document [W16, M8]
@@ -148,6 +142,11 @@ pub sum-hits : (d : List ℕ) → AcceptedDescription SUMS d → (sources : ℕ)
 unfolding table.wordsOf kindOf sum-kind.words
 sum-hits d a sources =
     ap (λ (ws : List ℕ). runSum ws sources) (chains-flat SUMS d) ∙ sum.run-hits (sum-kind.fromBytes d) (description-accepted SUMS (lit< tt) d a) sources
+
+-- a state's word holds its fields [W19]
+pub state-words : (d : List ℕ) → chainWordsOf STATES d ≡ wordsOf (state-kind.fromBytes d)
+unfolding table.wordsOf kindOf state-kind.words
+state-words = chains-flat STATES
 
 -- ---- the same of the words that stand in a sheet's stream
 
@@ -171,18 +170,18 @@ described s b ok k h i l =
 -- the same, for every record of every accepted sheet [D2.2, D2.3, D2.4]
 module _ (s : List ℕ) (b : Bytes s) (ok : verdict s ≡ Verdict.Accepted) (i : ℕ) where
   pub sheet-term-hits : (there : SentAt (streamOf (parse s)) TERMS (recordOf s TERMS i)) (sample : ℕ)
-      → runTerm (streamWords s TERMS i there) sample ≡ hitOrMiss (hitOf TERMS (descriptionOf (recordOf s TERMS i)) (Sample sample))
+      → runTerm (streamWords s TERMS i there) sample ≡ hitOrMiss (term-rule.hit (term-kind.fromBytes (descriptionOf (recordOf s TERMS i))) (Sample sample))
   sheet-term-hits there sample =
       ap (λ (ws : List ℕ). runTerm ws sample) (there .words) ∙ term-hits (descriptionOf (recordOf s TERMS i)) sample
 
   pub sheet-range-hits : i < length (getD (parse s) RANGES []) → (there : SentAt (streamOf (parse s)) RANGES (recordOf s RANGES i)) (sample : ℕ)
-      → runRange (streamWords s RANGES i there) sample ≡ hitOrMiss (hitOf RANGES (descriptionOf (recordOf s RANGES i)) (Sample sample))
+      → runRange (streamWords s RANGES i there) sample ≡ hitOrMiss (range-rule.hit (range-kind.fromBytes (descriptionOf (recordOf s RANGES i))) (Sample sample))
   sheet-range-hits l there sample =
       ap (λ (ws : List ℕ). runRange ws sample) (there .words)
       ∙ range-hits (descriptionOf (recordOf s RANGES i)) (described s b ok RANGES (lit< tt) i l) sample
 
   pub sheet-edge-hits : (there : SentAt (streamOf (parse s)) EDGES (recordOf s EDGES i)) (earlier later : ℕ)
-      → runEdge (streamWords s EDGES i there) earlier later ≡ hitOrMiss (hitOf EDGES (descriptionOf (recordOf s EDGES i)) (Samples earlier later))
+      → runEdge (streamWords s EDGES i there) earlier later ≡ hitOrMiss (edge-rule.hit (edge-kind.fromBytes (descriptionOf (recordOf s EDGES i))) (Samples earlier later))
   sheet-edge-hits there e l =
       ap (λ (ws : List ℕ). runEdge ws e l) (there .words) ∙ edge-hits (descriptionOf (recordOf s EDGES i)) e l
 
@@ -191,3 +190,7 @@ module _ (s : List ℕ) (b : Bytes s) (ok : verdict s ≡ Verdict.Accepted) (i :
   sheet-sum-hits l there sources =
       ap (λ (ws : List ℕ). runSum ws sources) (there .words)
       ∙ sum-hits (descriptionOf (recordOf s SUMS i)) (described s b ok SUMS (lit< tt) i l) sources
+
+  pub sheet-state-words : (there : SentAt (streamOf (parse s)) STATES (recordOf s STATES i))
+      → streamWords s STATES i there ≡ wordsOf (state-kind.fromBytes (descriptionOf (recordOf s STATES i)))
+  sheet-state-words there = there .words ∙ state-words (descriptionOf (recordOf s STATES i))

@@ -9,6 +9,6 @@ unfoldable pub sizeOf : List ℕ → ℕ
 sizeOf [] = 0
 sizeOf (n ∷ ns) = 5 + 5 * n + sizeOf ns
 
--- how many bytes an item of section k takes up: 25, 170, 45 and 35 [W18]
+-- how many bytes an item of section k takes up: 25, 170, 45, 35 and 10 [W18]
 unfoldable pub itemSize : (k : ℕ) → ℕ
 itemSize k = sizeOf (lengthsOf k)

@@ -12,7 +12,7 @@ mod stream;
 pub use items::item_size;
 
 // The most bytes that the commands of a sheet take up (proofs/Theorems, at-most).
-pub const LONGEST: usize = 2360;
+pub const LONGEST: usize = 2520;
 
 // The commands of a sheet, written at the start of `out`.
 pub fn compile(sheet: &[u8], out: &mut [u8]) -> Outcome

@@ -91,7 +91,7 @@ pub accepted-iff-some-sheet-writes-it : (stream : List ℕ) → Bytes stream →
 accepted-iff-some-sheet-writes-it = reader.accepted-exactly
 
 -- the same of the call's answer: given room for the longest sheet, it is a success exactly then [D2.6, A9]
-pub done-iff-some-sheet-writes-it : (stream room : List ℕ) (r : Outcome) (room′ : List ℕ) → Bytes stream → 1218 ≤ length room
+pub done-iff-some-sheet-writes-it : (stream room : List ℕ) (r : Outcome) (room′ : List ℕ) → Bytes stream → 1571 ≤ length room
     → Delivered (readBack stream) room r room′ → ((n : ℕ) × (r ≡ Done n)) ↔ WrittenBySheet stream
 done-iff-some-sheet-writes-it stream room r room′ b fits d = (
   λ e. reader.accepted-exactly stream b .0 (accepted (streamVerdict stream) (e .0) (sym (e .1) ∙ d .answer)),

@@ -81,7 +81,7 @@ dropped-words-iff-alike = words.dropped-alike
 
 -- of any two accepted sheets, and the bytes that the call wrote, given room for the longest notice
 module _ (old new : List ℕ) (bo : Bytes old) (bn : Bytes new) (ao : verdict old ≡ Accepted) (an : verdict new ≡ Accepted)
-    (out : List ℕ) (r : Noticed) (out′ : List ℕ) (enough : 1756 ≤ length out) (given : NoticeGiven old new out r out′) where
+    (out : List ℕ) (r : Noticed) (out′ : List ℕ) (enough : 2172 ≤ length out) (given : NoticeGiven old new out r out′) where
   -- the notice is written whole, and its length is answered [N1, A9]
   pub notice-is-written : (r ≡ Done (length (noticeText old new))) × (written r out′ ≡ noticeText old new)
   notice-is-written =

@@ -69,11 +69,11 @@ newer =
     ∷ slots 48 0 0x21 (replicate 11 1)
     ∷ [])
 
--- no notice is longer than 1,756 bytes, and one of two accepted sheets is as long [N11]
-pub longest-notice : (old new : List ℕ) → length (noticeText old new) ≤ 1756
+-- no notice is longer than 2,172 bytes, and one of two accepted sheets is as long [N11]
+pub longest-notice : (old new : List ℕ) → length (noticeText old new) ≤ 2172
 longest-notice = notice.at-most
 
-pub longest-notice-reached : length (noticeText older newer) ≡ 1756
+pub longest-notice-reached : length (noticeText older newer) ≡ 2172
 unfolding fieldBytes slots older newer render joined parse sectionsFrom recordsFrom kindOf descriptionSize mostOf find same u32At noticeText noticeLines sectionsLines linesFrom slotLines sharedLines nameOf changeOf term-kind.telling range-telling-kind.telling edge-kind.telling text.render text.renderAll termTelling trailingZeros rangeTelling tellReduced tellBounds tellMasks firstDiffer tellLine turnSample turnValue reduceOf reduceFrom gathered scattered dropLowest flipLine rangeHit tellBy without
 longest-notice-reached = refl
 
@@ -81,41 +81,41 @@ pub longest-notice-sheets : (verdict older ≡ Accepted) × (verdict newer ≡ A
 unfolding fieldBytes slots older newer render joined kindOf descriptionSize mostOf descriptionFault term-kind.fault range-kind.fault edge-kind.fault sum-kind.fault u32At allWithin rangeFault ones overLines recordFault recordsVerdict countVerdict sectionVerdict sectionsVerdict verdict
 longest-notice-sheets = (refl, refl)
 
--- no accepted sheet is longer than 1,218 bytes, and one is as long [S8]
-pub longest-sheet : (s : List ℕ) → verdict s ≡ Accepted → length s ≤ 1218
+-- no accepted sheet is longer than 1,571 bytes, and one is as long [S8]
+pub longest-sheet : (s : List ℕ) → verdict s ≡ Accepted → length s ≤ 1571
 longest-sheet = sheet.at-most
 
-pub longest-sheet-reached : (verdict full ≡ Accepted) × (length full ≡ 1218)
+pub longest-sheet-reached : (verdict full ≡ Accepted) × (length full ≡ 1571)
 longest-sheet-reached = sheet.one-has
 
--- no sheet makes more than 2,360 bytes of commands, and a full one makes as many [W18]
-pub most-commands : (s : List ℕ) → verdict s ≡ Accepted → length (streamOf (parse s)) ≤ 2360
+-- no sheet makes more than 2,520 bytes of commands, and a full one makes as many [W18]
+pub most-commands : (s : List ℕ) → verdict s ≡ Accepted → length (streamOf (parse s)) ≤ 2520
 most-commands = compiler.at-most
 
-pub most-commands-reached : (verdict full ≡ Accepted) × (length (streamOf (parse full)) ≡ 2360)
+pub most-commands-reached : (verdict full ≡ Accepted) × (length (streamOf (parse full)) ≡ 2520)
 most-commands-reached = compiler.full-has
 
 -- a program that reads this much of a file judges all of it
-pub enough-of-a-sheet : (s : List ℕ) → verdict (take 1219 s) ≡ verdict s
+pub enough-of-a-sheet : (s : List ℕ) → verdict (take 1572 s) ≡ verdict s
 enough-of-a-sheet = sheet.enough
 
 -- ---- room enough, whatever is handed in: what is refused needs none (Demand1), what is accepted is written [A9]
 
--- 2,360 bytes for every sheet that is compiled [A9, W18]
-pub room-for-every-stream : (s room : List ℕ) (r : Outcome) (room′ : List ℕ) → 2360 ≤ length room → Delivered (compiled s) room r room′
+-- 2,520 bytes for every sheet that is compiled [A9, W18]
+pub room-for-every-stream : (s room : List ℕ) (r : Outcome) (room′ : List ℕ) → 2520 ≤ length room → Delivered (compiled s) room r room′
     → verdict s ≡ Accepted → r ≡ Outcome.Done (length (streamOf (parse s)))
 room-for-every-stream s room r room′ fits d ok =
     compiler.accepted-written s room r room′ ok (omega (arith, fits, compiler.at-most s ok)) d .0
 
--- 1,218 for every stream that is read [A9, S8]
-pub room-for-every-sheet : (stream room : List ℕ) (r : Outcome) (room′ : List ℕ) → Bytes stream → 1218 ≤ length room
+-- 1,571 for every stream that is read [A9, S8]
+pub room-for-every-sheet : (stream room : List ℕ) (r : Outcome) (room′ : List ℕ) → Bytes stream → 1571 ≤ length room
     → Delivered (readBack stream) room r room′ → streamVerdict stream ≡ Accepted → r ≡ Outcome.Done (length (render (sheetIn stream)))
 room-for-every-sheet stream room r room′ b fits d ok =
     let back = render (sheetIn stream) in
     answered back room r room′ (omega (arith, fits, sheet.at-most back (reader.read-accepted stream b ok))) (rw ok at d)
 
--- 1,756 for every notice [A9, N11]
-pub room-for-every-notice : (old new out : List ℕ) (r : Noticed) (out′ : List ℕ) → 1756 ≤ length out → NoticeGiven old new out r out′
+-- 2,172 for every notice [A9, N11]
+pub room-for-every-notice : (old new out : List ℕ) (r : Noticed) (out′ : List ℕ) → 2172 ≤ length out → NoticeGiven old new out r out′
     → verdict old ≡ Accepted → verdict new ≡ Accepted → r ≡ Noticed.Done (length (noticeText old new))
 room-for-every-notice old new out r out′ fits g a e =
     g .answer ∙ simp (a, e, le-leb (length (noticeText old new)) (length out) (omega (arith, fits, notice.at-most old new)))

@@ -7,9 +7,8 @@ use mathlib.Core.Bool.{Bool, true, _&&_}
 use Rattle.lines.proofs.Truth.{and-left, and-right}
 use native.Mathlib.Decide.{decLt}
 use native.Mathlib.Omega.{arith}
-use lib.Dec.{T, leb, leb→le}
+use lib.Dec.{T, eqb, leb, eqb→eq, leb→le}
 use lib.ListN.{length, getD, List·getD-eq-default}
-use Rattle.lines.proofs.Computed.{every-below}
 use Rattle.kinds.specs.Table.{Kind, kinds, noKind, sections, kindOf, mostOf, descriptionSize, chainCount, chainLength}
 
 abbrev pub Each : (P : Kind → Type 0) → List Kind → Type 0
@@ -50,10 +49,14 @@ each-passes test [] t = tt
 each-passes test (x ∷ xs) t = (and-left (test x) (every test xs) t, each-passes test xs (and-right (test x) (every test xs) t))
 
 -- of every section, also one that no sheet has; of those that a sheet has
+passes : (test : Kind → Bool) → T (every test (noKind ∷ kinds)) → (k : ℕ) → T (test (kindOf k))
+passes test t k = let p = each-passes test (noKind ∷ kinds) t in of-any (λ x. T (test x)) (p .1) (p .0) k
+
 pub at-most : (f : Kind → ℕ) (n : ℕ) → T (every (λ x. leb (f x) n) (noKind ∷ kinds)) → (k : ℕ) → f (kindOf k) ≤ n
-at-most f n t k =
-    let p = each-passes (λ x. leb (f x) n) (noKind ∷ kinds) t in
-    leb→le (f (kindOf k)) n (of-any (λ x. T (leb (f x) n)) (p .1) (p .0) k)
+at-most f n t k = leb→le (f (kindOf k)) n (passes (λ x. leb (f x) n) t k)
+
+pub always : (f : Kind → ℕ) (n : ℕ) → T (every (λ x. eqb (f x) n) (noKind ∷ kinds)) → (k : ℕ) → f (kindOf k) ≡ n
+always f n t k = eqb→eq (f (kindOf k)) n (passes (λ x. eqb (f x) n) t k)
 
 pub at-least-one : (f : Kind → ℕ) → T (every (λ x. leb 1 (f x)) kinds) → (k : ℕ) → k < sections → 1 ≤ f (kindOf k)
 at-least-one f t k h = leb→le 1 (f (kindOf k)) (of-kind (λ x. T (leb 1 (f x))) (each-passes (λ x. leb 1 (f x)) kinds t) k h)

@@ -1,17 +1,15 @@
 -- What the rooms above need of every section, stated once: how many words a description has, the way there and back, and what a
 -- change says. Each kind's part of it is in the kind's own crate. Assumes nothing.
 use Prim.Native.Nat.{ℕ, zero, suc, _+_, _*_, _≤_, _<_, _^_}
-use mathlib.Core.List.{List, [], _∷_, _++_, map, flatten, append-nil}
+use mathlib.Core.List.{List, [], _∷_, _++_, map, flatten}
 use mathlib.Core.Path.{_≡_, refl, sym, ap, ap₂, _∙_}
 use mathlib.Core.Bool.{Bool}
-use native.Mathlib.Nat.{zero-add}
 use native.Mathlib.Omega.{arith}
-use lib.Dec.{lit<, lit≤}
-use lib.ListN.{length, getD, take, drop, replicate, length-drop, length-take, take-append-drop, drop-of-length-le}
-use lib.Seq.{take-all, length-take-le}
+use lib.Dec.{lit<}
+use lib.ListN.{length, getD, take, drop, replicate, length-drop, take-append-drop}
+use lib.Seq.{length-take-le}
 use Rattle.peek.specs.Bytes.{Bytes}
-use Rattle.peek.specs.Fields.{fieldOf, Writes}
-use Rattle.peek.proofs.Numbers.{u32-small}
+use Rattle.peek.specs.Fields.{Writes}
 use mathlib.Core.Logic.{_↔_}
 use Rattle.lut.specs.Input.{inNumbers}
 use Rattle.lut.specs.Telling as lut
@@ -35,7 +33,7 @@ use Rattle.state.proofs.Ways as state-ways
 use Rattle.kinds.specs.declared.Change.{Change}
 use Rattle.kinds.specs.declared.Change.the-variants.{Oper, Word, Altr}
 use Rattle.kinds.specs.Change.{told, Says}
-use Rattle.kinds.specs.Table.{Kind, termKind, rangeKind, edgeKind, stateKind, sections, kindOf, mostOf, descriptionSize, descriptionFault, Accepted, addressOf, chainCount, chainLength, wordsOf, descriptionRead, cutDescription, showsOf, changeOf, lengthsOf, pieces, chainsOf}
+use Rattle.kinds.specs.Table.{Kind, termKind, rangeKind, edgeKind, stateKind, sections, kindOf, descriptionSize, descriptionFault, Accepted, chainCount, chainLength, wordsOf, descriptionRead, cutDescription, showsOf, changeOf, lengthsOf, pieces, chainsOf}
 use Rattle.kinds.proofs.Rows.{of-kind, of-any, at-most, size-positive}
 
 -- ---- words and chains

@@ -9,7 +9,7 @@ use Rattle.lut.specs.declared.Input.the-variants.{Nothing, Sample, Sampl
 use Rattle.lut.specs.declared.Telling.{Telling}
 use Rattle.lut.specs.declared.Telling.the-variants.{Alike, Apart}
 use Rattle.lut.specs.Table.{oneIf}
-use Rattle.lut.specs.Input.{Fits, onSample, onSamples, inNumbers}
+use Rattle.lut.specs.Input.{onSample, onSamples, inNumbers}
 use Rattle.lut.specs.Telling.{HitAlike, TellsApart, Says}
 
 -- descriptions that are asked with a sample hit alike on every input if they do on every sample

@@ -1,5 +1,5 @@
 -- How long a notice can be: a line on a changed description has at most 22 bytes for a term or a range, 31 for an edge
--- and 13 for a sum; a line NAME before it has 13. Assumes nothing.
+-- and 13 for a sum or a state; a line NAME before it has 13. Assumes nothing.
 use Prim.Native.Nat.{ℕ, zero, suc, _+_, _*_, _≤_, min, max}
 use mathlib.Core.Bool.{Bool, true, false, cond}
 use mathlib.Core.List.{List, [], _∷_}
@@ -77,7 +77,7 @@ any-within (Apart (Sources s)) = omega arith
 
 -- by the section's number
 abbrev changeMost : ℕ → ℕ
-changeMost k = getD (22 ∷ 22 ∷ 31 ∷ 13 ∷ []) k 13
+changeMost k = getD (22 ∷ 22 ∷ 31 ∷ 13 ∷ 13 ∷ []) k 13
 
 change-most : (k : ℕ) (d e : List ℕ) → 8 + length (changeText (changeOf k d e)) ≤ changeMost k
 unfolding changeOf kindOf term.telling range-telling.telling rangeTelling edge.telling
@@ -85,7 +85,8 @@ change-most zero d e = term-within (term.fromBytes d .target) (term.fromBytes d 
 change-most (suc zero) d e = range-within (reduceOf (range.fromBytes d)) (reduceOf (range.fromBytes e))
 change-most (suc (suc zero)) d e = any-within (edge.telling d e)
 change-most (suc (suc (suc zero))) d e = omega arith
-change-most (suc (suc (suc (suc k)))) d e = omega arith
+change-most (suc (suc (suc (suc zero)))) d e = omega arith
+change-most (suc (suc (suc (suc (suc k))))) d e = omega arith
 
 -- ---- a slot
 
@@ -145,11 +146,11 @@ sections-length (suc n) k p q =
     rw (renderAll-append now rest, length-append (renderAll now) (renderAll rest))
     (omega (arith, lines-length k (mostOf k) 0 (getD p k []) (getD q k []), sections-length n (k + 1) p q))
 
-all-text : mostText sections 0 ≡ 1756
+all-text : mostText sections 0 ≡ 2172
 unfolding mostText slotMost mostOf kindOf
 all-text = refl
 
--- no notice has more than 1,756 bytes [N11, A9]
-pub at-most : (old new : List ℕ) → length (noticeText old new) ≤ 1756
+-- no notice has more than 2,172 bytes [N11, A9]
+pub at-most : (old new : List ℕ) → length (noticeText old new) ≤ 2172
 unfolding noticeText noticeLines
 at-most old new = omega (arith, sections-length sections 0 (parse old) (parse new), all-text)

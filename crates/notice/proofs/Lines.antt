@@ -11,7 +11,7 @@ use Rattle.buffer.proofs.Writing.{Pending, pending-start, pending-write, pendin
 use Rattle.lut.specs.declared.Input.{Input}
 use Rattle.kinds.specs.Table.{nameOf}
 use Rattle.kinds.specs.declared.Change.the-variants.{Altr}
-use Rattle.kinds.proofs.Rows.{of-any}
+use Rattle.kinds.proofs.Rows.{always}
 use Rattle.notice.specs.declared.Line.{Line}
 use Rattle.notice.specs.Text.{hex, slotText, inputText, changeText, findingText, render, renderAll}
 
@@ -47,7 +47,7 @@ altr-length i = rw (length-append ((65 ∷ 76 ∷ 84 ∷ 82 ∷ []) ++ inputText
 
 pub name-length : (k : ℕ) → length (nameOf k) ≡ 4
 unfolding nameOf
-name-length = of-any (λ x. length (x .name) ≡ 4) (refl, (refl, (refl, (refl, tt)))) refl
+name-length = always (λ x. length (x .name)) 4 tt
 
 pub render-length : (l : Line) → length (render l) ≡ 8 + length (findingText (l .finding))
 unfolding render

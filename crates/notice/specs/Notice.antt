@@ -33,7 +33,7 @@ sectionsLines (suc n) k old new = linesFrom k (mostOf k) 0 (getD old k []) (getD
 unfoldable pub noticeLines : (old new : List ℕ) → List Line
 noticeLines old new = sectionsLines sections 0 (parse old) (parse new)
 
--- its bytes, at most 1,756; those of one example are given whole (demands, NoticeExamples) [N1, N11, E11]
+-- its bytes, at most 2,172; those of one example are given whole (demands, NoticeExamples) [N1, N11, E11]
 unfoldable pub noticeText : (old new : List ℕ) → List ℕ
 noticeText old new = renderAll (noticeLines old new)
 

@@ -29,7 +29,8 @@ numberText n x = 32 ∷ hex n x
 abbrev pub slotText : ℕ → List ℕ
 slotText s = 32 ∷ (48 + s / 10) ∷ (48 + s % 10) ∷ 32 ∷ []
 
--- what ALTR shows: samples in eight hex digits, the earlier first; sources never, since sums have OPER [N8, G8]
+-- what ALTR shows: samples in eight hex digits, the earlier first; nothing for a state; sources never, since sums have
+-- OPER [N8, G8]
 abbrev pub inputText : Input → List ℕ
 inputText Nothing = []
 inputText (Sample s) = numberText 8 s

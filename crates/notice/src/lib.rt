@@ -9,7 +9,7 @@ ghost use Rattle.notice.specs.Notice.{NoticeGiven, NoticeNumbered};
 use kinds::Change;
 
 // The most bytes that a notice has (proofs/Lengths, at-most): the room in which it is built before its length is known.
-pub const LONGEST: usize = 1756;
+pub const LONGEST: usize = 2172;
 
 // What a line says of a slot.
 pub enum Finding {

@@ -1,4 +1,4 @@
--- How much of a stream the reader looks at: an accepted stream has at most 2,360 bytes, and of any other one whole
+-- How much of a stream the reader looks at: an accepted stream has at most 2,520 bytes, and of any other one whole
 -- command more settles the refusal. Assumes nothing.
 use Prim.Native.Nat.{ℕ, zero, suc, _+_, _*_, _≤_, _<_, _-_}
 use mathlib.Core.Path.{_≡_, refl, sym, ap, ap₂, _∙_}
@@ -132,7 +132,7 @@ module _ (low a : ℕ) (h : low ≤ a) (known : sectionAt a < sections) where
       omega (arith, left-next a small)
 
 -- all the items that there are
-all-items : left 0 ≡ 2360
+all-items : left 0 ≡ 2520
 unfolding left sizesFrom sizeAt itemSize sizeOf lengthsOf chainCount chainLength kindOf sectionAt sectionFrom slotAt slotFrom mostOf addressOf
 all-items = refl
 
@@ -191,17 +191,17 @@ accepted-fits =
       length-drop (stepSize s) s,
     ))
 
--- an accepted stream has at most 2,360 bytes
-pub accepted-short : (s : List ℕ) → streamVerdict s ≡ Accepted → length s ≤ 2360
+-- an accepted stream has at most 2,520 bytes
+pub accepted-short : (s : List ℕ) → streamVerdict s ≡ Accepted → length s ≤ 2520
 unfolding streamVerdict
 accepted-short s e = rw all-items at (accepted-fits s 0 0 e)
 
 -- the verdict, and so the answer, is settled by the first 2,365 bytes
-pub prefix-verdict : (s : List ℕ) (n : ℕ) → 2365 ≤ n → streamVerdict (take n s) ≡ streamVerdict s
+pub prefix-verdict : (s : List ℕ) (n : ℕ) → 2525 ≤ n → streamVerdict (take n s) ≡ streamVerdict s
 unfolding streamVerdict
 prefix-verdict s n h = prefix-judged s 0 0 n (rw all-items h)
 
-pub prefix-read : (s : List ℕ) (n : ℕ) → 2365 ≤ n → readBack (take n s) ≡ readBack s
+pub prefix-read : (s : List ℕ) (n : ℕ) → 2525 ≤ n → readBack (take n s) ≡ readBack s
 prefix-read s n h = rw (prefix-verdict s n h) (go (streamVerdict s) refl)
   where
     go : (v : Verdict) → streamVerdict s ≡ v → unless v (render (sheetIn (take n s))) ≡ unless v (render (sheetIn s))

@@ -87,11 +87,11 @@ read-says stream b room room′ r d = go (streamVerdict stream) refl d
 
 -- ---- how much of a stream the reader looks at
 
--- no accepted stream has more than 2,360 bytes [W18]
-pub accepted-most : (stream : List ℕ) → streamVerdict stream ≡ Accepted → length stream ≤ 2360
+-- no accepted stream has more than 2,520 bytes [W18]
+pub accepted-most : (stream : List ℕ) → streamVerdict stream ≡ Accepted → length stream ≤ 2520
 accepted-most = accepted-short
 
 -- so a program that hands over the first 2,365 bytes of a file, one whole command more, gets the whole file's answer
 -- [A9]
-pub enough : (stream : List ℕ) → readBack (take 2365 stream) ≡ readBack stream
-enough stream = prefix-read stream 2365 (le-refl 2365)
+pub enough : (stream : List ℕ) → readBack (take 2525 stream) ≡ readBack stream
+enough stream = prefix-read stream 2525 (le-refl 2525)

@@ -19,11 +19,11 @@ labelSize = 8
 abbrev pub faultIf : Bool → ℕ → ℕ → ℕ
 faultIf test number later = cond test number later
 
--- a record's bytes, slot, label and description: 17, 21, 21 and 20 [S1, S2]
+-- a record's bytes, slot, label and description: 17, 21, 21, 20 and 22 [S1, S2]
 abbrev pub recordSize : ℕ → ℕ
 recordSize k = 1 + labelSize + descriptionSize k
 
--- a section's bytes, its count and so many records; all four with their most make 1,218 [S1, S8]
+-- a section's bytes, its count and so many records; all five with their most make 1,571 [S1, S8]
 abbrev pub sectionSize : ℕ → ℕ → ℕ
 sectionSize k count = 1 + count * recordSize k
 

@@ -1,4 +1,4 @@
--- Sheets worked out: each refusal 1 to 11 with its place, and which of two faults wins. One table, computed. Assumes nothing.
+-- Sheets worked out: each refusal 1 to 11 and 18 with its place, and which of two faults wins. One table, computed. Assumes nothing.
 use Prim.Native.Nat.{ℕ, zero, suc}
 use mathlib.Core.Bool.{Bool, true, false, _&&_}
 use mathlib.Core.List.{List, [], _∷_, _++_}
@@ -23,6 +23,7 @@ use Rattle.edge.specs.Description as edge-kind
 use Rattle.term.specs.Description as term-kind
 use Rattle.range.specs.Description as range-kind
 use Rattle.sum.specs.Description as sum-kind
+use Rattle.state.specs.Description as state-kind
 
 -- a record with this slot, this label byte throughout and this description
 pub labelled : ℕ → ℕ → List ℕ → List ℕ
@@ -31,7 +32,7 @@ labelled slot label d = slot ∷ (replicate labelSize label ++ d)
 pub blank : ℕ → List ℕ → List ℕ
 blank slot d = labelled slot 0x20 d
 
--- the descriptions of a term, a sum, and a range or an edge
+-- the descriptions of a term, a sum, a range or an edge, and a state with this last flag
 pub term : List ℕ
 term = fieldBytes (5 ∷ 15 ∷ [])
 
@@ -41,8 +42,11 @@ sum = replicate 11 9
 pub three : ℕ → ℕ → ℕ → List ℕ
 three a b c = fieldBytes (a ∷ b ∷ c ∷ [])
 
-pub sheet : List (List ℕ) → List (List ℕ) → List (List ℕ) → List (List ℕ) → List ℕ
-sheet terms ranges edges sums = render (terms ∷ ranges ∷ edges ∷ sums ∷ [])
+pub state : (number branch flag : ℕ) → List ℕ
+state number branch flag = fieldBytes (number ∷ []) ++ (branch ∷ (replicate 7 1 ++ (flag ∷ [])))
+
+pub sheet : (terms ranges edges sums states : List (List ℕ)) → List ℕ
+sheet terms ranges edges sums states = render (terms ∷ ranges ∷ edges ∷ sums ∷ states ∷ [])
 
 -- n blank records with slots from i on
 pub slots : ℕ → ℕ → List ℕ → List (List ℕ)
@@ -51,7 +55,8 @@ slots (suc n) i d = blank i d ∷ slots n (suc i) d
 
 -- every slot of every section is taken
 pub full : List ℕ
-full = sheet (slots 10 0 term) (slots 2 0 (three 1 1 1)) (slots 2 0 (three 0 0 0)) (slots 48 0 sum)
+full =
+    sheet (slots 10 0 term) (slots 2 0 (three 1 1 1)) (slots 2 0 (three 0 0 0)) (slots 48 0 sum) (slots 16 0 (state 0xFFFFF 15 1))
 
 -- what an example says: this sheet gets this verdict
 pub record Example : Type 0 where
@@ -73,10 +78,12 @@ allHold (e ∷ es) = same (verdict (e .bytes)) (e .expected) && allHold es
 
 pub table : List Example
 table =
-    gives (0 ∷ 0 ∷ 0 ∷ 0 ∷ []) Accepted
+    gives (replicate 5 0) Accepted
     ∷ gives full Accepted
     -- 1: a count is missing; a record is missing, or cut, even where its slot is bad; a fault before the cut wins
     ∷ gives [] (Refused 1 0)
+    -- an old sheet has four counts
+    ∷ gives (replicate 4 0) (Refused 1 4)
     ∷ gives (0 ∷ 0 ∷ 0 ∷ []) (Refused 1 3)
     ∷ gives (1 ∷ []) (Refused 1 1)
     ∷ gives (1 ∷ 10 ∷ replicate 15 0x20) (Refused 1 1)
@@ -85,20 +92,20 @@ table =
     ∷ gives (11 ∷ []) (Refused 2 0)
     ∷ gives (0 ∷ 3 ∷ blank 2 (three 0 0 0)) (Refused 2 1)
     -- 3: slot 10 does not wrap; before 4 and 5
-    ∷ gives (sheet (blank 10 term ∷ []) [] [] []) (Refused 3 1)
-    ∷ gives (sheet (blank 9 term ∷ labelled 10 0x7F term ∷ []) [] [] []) (Refused 3 18)
+    ∷ gives (sheet (blank 10 term ∷ []) [] [] [] []) (Refused 3 1)
+    ∷ gives (sheet (blank 9 term ∷ labelled 10 0x7F term ∷ []) [] [] [] []) (Refused 3 18)
     -- 4: the same slot twice; before 5
-    ∷ gives (sheet (blank 4 term ∷ blank 4 term ∷ []) [] [] []) (Refused 4 18)
-    ∷ gives (sheet (blank 4 term ∷ labelled 3 0x1F term ∷ []) [] [] []) (Refused 4 18)
+    ∷ gives (sheet (blank 4 term ∷ blank 4 term ∷ []) [] [] [] []) (Refused 4 18)
+    ∷ gives (sheet (blank 4 term ∷ labelled 3 0x1F term ∷ []) [] [] [] []) (Refused 4 18)
     -- 5: before 6
-    ∷ gives (sheet (labelled 0 0x7F term ∷ []) [] [] []) (Refused 5 1)
-    ∷ gives (sheet (labelled 0 0x1F term ∷ []) [] [] []) (Refused 5 1)
-    ∷ gives (sheet (labelled 0 0x7E term ∷ []) [] [] []) Accepted
-    ∷ gives (sheet [] (labelled 0 0x7F (three 0 1 1) ∷ []) [] []) (Refused 5 2)
+    ∷ gives (sheet (labelled 0 0x7F term ∷ []) [] [] [] []) (Refused 5 1)
+    ∷ gives (sheet (labelled 0 0x1F term ∷ []) [] [] [] []) (Refused 5 1)
+    ∷ gives (sheet (labelled 0 0x7E term ∷ []) [] [] [] []) Accepted
+    ∷ gives (sheet [] (labelled 0 0x7F (three 0 1 1) ∷ []) [] [] []) (Refused 5 2)
     -- 6, P: lower 0; before 7 and 8; the second of two ranges
     ∷ gives (sheetWith 1 (three 0 1 1)) (Refused 6 2)
     ∷ gives (sheetWith 1 (three 0 0 0)) (Refused 6 2)
-    ∷ gives (sheet [] (blank 0 (three 1 1 1) ∷ blank 1 (three 0 1 1) ∷ []) [] []) (Refused 6 23)
+    ∷ gives (sheet [] (blank 0 (three 1 1 1) ∷ blank 1 (three 0 1 1) ∷ []) [] [] []) (Refused 6 23)
     -- 7: before 8
     ∷ gives (sheetWith 1 (three 3 2 1)) (Refused 7 2)
     -- 8, P: mask 1, 1..1 accepted, 1..2 refused; mask 0 never passes
@@ -112,14 +119,23 @@ table =
     -- 10: the last operation, and bytes left over after it
     ∷ gives (sheetWith 3 (replicate 10 9 ++ (10 ∷ []))) (Refused 10 4)
     ∷ gives (sheetWith 3 (replicate 10 9 ++ (10 ∷ [])) ++ (0 ∷ [])) (Refused 10 4)
+    -- 18: each of a state's fields at its most, and one above it; after 5 of its own record and 10 of a section before
+    ∷ gives (sheetWith 4 (state 0xFFFFF 15 1)) Accepted
+    ∷ gives (sheetWith 4 (state 0x100000 15 1)) (Refused 18 5)
+    ∷ gives (sheetWith 4 (state 0xFFFFF 16 1)) (Refused 18 5)
+    ∷ gives (sheetWith 4 (state 0xFFFFF 15 2)) (Refused 18 5)
+    ∷ gives (sheet [] [] [] [] (labelled 0 0x7F (state 0 16 0) ∷ [])) (Refused 5 5)
+    ∷ gives (sheet [] [] [] [] (blank 15 (state 0 0 0) ∷ blank 16 (state 0 16 0) ∷ [])) (Refused 3 27)
+    ∷ gives (sheet [] [] [] (blank 0 (replicate 11 10) ∷ []) (blank 0 (state 0 16 0) ∷ [])) (Refused 10 4)
     -- 11: comes last
-    ∷ gives (0 ∷ 0 ∷ 0 ∷ 0 ∷ 7 ∷ []) (Refused 11 4)
-    ∷ gives (full ++ (0 ∷ 0 ∷ [])) (Refused 11 1218)
+    ∷ gives (replicate 5 0 ++ (7 ∷ [])) (Refused 11 5)
+    ∷ gives (full ++ (0 ∷ 0 ∷ [])) (Refused 11 1571)
+    ∷ gives (sheetWith 4 (state 0 16 0) ++ (7 ∷ [])) (Refused 18 5)
     ∷ gives (sheetWith 1 (three 0 1 1) ++ (7 ∷ [])) (Refused 6 2)
     ∷ []
 
 pub examples : T (allHold table)
-unfolding labelled blank term sum three sheet slots full gives same allHold table joined render verdict sectionsVerdict sectionVerdict countVerdict recordsVerdict recordFault descriptionFault term-kind.fault range-kind.fault rangeFault edge-kind.fault sum-kind.fault overLines allWithin u32At fieldBytes kindOf mostOf descriptionSize ones onesIn sheetWith recordWith onlySection
+unfolding labelled blank term sum three state sheet slots full gives same allHold table joined render verdict sectionsVerdict sectionVerdict countVerdict recordsVerdict recordFault descriptionFault term-kind.fault range-kind.fault rangeFault edge-kind.fault sum-kind.fault state-kind.fault overLines allWithin u32At fieldBytes kindOf mostOf descriptionSize ones onesIn sheetWith recordWith onlySection
 examples = tt
 
 -- the same of descriptions alone; P: lower 0, and mask 1 with 1..1 and 1..2
@@ -129,8 +145,9 @@ pub descriptions :
     × (descriptionFault 1 (three 1 2 1) ≡ 8)
     × (descriptionFault 2 (three 1 0 1) ≡ 9)
     × (descriptionFault 3 (replicate 11 10) ≡ 10)
-unfolding three descriptionFault kindOf range-kind.fault rangeFault edge-kind.fault sum-kind.fault allWithin overLines fieldBytes u32At ones onesIn
-descriptions = (refl, refl, refl, refl, refl)
+    × (descriptionFault 4 (state 0 0 2) ≡ 18)
+unfolding three state descriptionFault kindOf range-kind.fault rangeFault edge-kind.fault sum-kind.fault state-kind.fault allWithin overLines fieldBytes u32At ones onesIn
+descriptions = (refl, refl, refl, refl, refl, refl)
 
 -- mask FFFFFFFF, 1..FFFFFFFF: 2^k - 1 is FFFFFFFF
 pub widest : descriptionFault 1 (three 1 0xFFFFFFFF 0xFFFFFFFF) ≡ 0
@@ -142,12 +159,12 @@ unfolding three descriptionSize kindOf
 widest-sheet = sheet-with 1 (three 1 0xFFFFFFFF 0xFFFFFFFF) (lit< tt) (fields-length (1 ∷ 0xFFFFFFFF ∷ 0xFFFFFFFF ∷ [])) widest
 
 -- the longest sheet
-pub full-length : length full ≡ 1218
-unfolding labelled blank term sum three sheet slots full joined render fieldBytes
+pub full-length : length full ≡ 1571
+unfolding labelled blank term sum three state sheet slots full joined render fieldBytes
 full-length = refl
 
 pub full-accepted : verdict full ≡ Accepted
-unfolding labelled blank term sum three sheet slots full joined render verdict sectionsVerdict sectionVerdict countVerdict recordsVerdict recordFault descriptionFault term-kind.fault range-kind.fault rangeFault edge-kind.fault sum-kind.fault overLines allWithin u32At fieldBytes kindOf mostOf descriptionSize ones onesIn
+unfolding labelled blank term sum three state sheet slots full joined render verdict sectionsVerdict sectionVerdict countVerdict recordsVerdict recordFault descriptionFault term-kind.fault range-kind.fault rangeFault edge-kind.fault sum-kind.fault state-kind.fault overLines allWithin u32At fieldBytes kindOf mostOf descriptionSize ones onesIn
 full-accepted = refl
 
 -- it has the most records that each section may have
@@ -156,5 +173,6 @@ pub full-counts :
     × (length (getD (parse full) 1 []) ≡ 2)
     × (length (getD (parse full) 2 []) ≡ 2)
     × (length (getD (parse full) 3 []) ≡ 48)
-unfolding labelled blank term sum three sheet slots full joined render fieldBytes descriptionSize kindOf recordsFrom sectionsFrom parse
-full-counts = (refl, refl, refl, refl)
+    × (length (getD (parse full) 4 []) ≡ 16)
+unfolding labelled blank term sum three state sheet slots full joined render fieldBytes descriptionSize kindOf recordsFrom sectionsFrom parse
+full-counts = (refl, refl, refl, refl, refl)

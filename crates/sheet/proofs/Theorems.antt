@@ -4,7 +4,7 @@ use mathlib.Core.List.{List, [], _∷_}
 use mathlib.Core.Logic.{_↔_}
 use mathlib.Core.Path.{_≡_, refl, sym, ap, _∙_}
 use lib.Dec.{lit<}
-use lib.ListN.{length, getD, take}
+use lib.ListN.{length, getD, take, replicate}
 use Rattle.peek.specs.Bytes.{Bytes}
 use Rattle.buffer.specs.declared.Verdict.the-variants.{Accepted, Refused}
 use Rattle.compare.proofs.Within.{within-at}
@@ -45,23 +45,23 @@ wellformed-accepted = render-accepted
 pub parse-rendered : (p : List (List (List ℕ))) → WellFormed p → parse (render p) ≡ p
 parse-rendered = parse-render
 
--- no sheet has more than 1,218 bytes, and one has as many [S8]
-pub at-most : (s : List ℕ) → verdict s ≡ Accepted → length s ≤ 1218
+-- no sheet has more than 1,571 bytes, and one has as many [S8]
+pub at-most : (s : List ℕ) → verdict s ≡ Accepted → length s ≤ 1571
 unfolding longestFrom mostOf descriptionSize kindOf
 at-most s ok = longest s ok
 
-pub one-has : (verdict full ≡ Accepted) × (length full ≡ 1218)
+pub one-has : (verdict full ≡ Accepted) × (length full ≡ 1571)
 one-has = (full-accepted, full-length)
 
--- four bytes, all 0, are a sheet [S8]
-pub four-zeros : verdict (0 ∷ 0 ∷ 0 ∷ 0 ∷ []) ≡ Accepted
+-- five bytes, all 0, are a sheet [S8]
+pub five-zeros : verdict (replicate 5 0) ≡ Accepted
 unfolding verdict sectionsVerdict sectionVerdict countVerdict recordsVerdict mostOf descriptionSize kindOf
-four-zeros = refl
+five-zeros = refl
 
--- so a program that reads 1,219 bytes of a file judges the whole file [A9]
-pub enough : (s : List ℕ) → verdict (take 1219 s) ≡ verdict s
+-- so a program that reads 1,572 bytes of a file judges the whole file [A9]
+pub enough : (s : List ℕ) → verdict (take 1572 s) ≡ verdict s
 unfolding longestFrom mostOf descriptionSize kindOf
-enough s = enough-read 1219 s (lit< tt)
+enough s = enough-read 1572 s (lit< tt)
 
 -- the place of a sheet's refusal is an offset, at most the sheet's length [F1, F11]
 pub refused-within : (s : List ℕ) (number place : ℕ) → verdict s ≡ Refused number place → place ≤ length s
@@ -111,7 +111,7 @@ label-byte k floor r f i l = within-at 0x20 0x7E (labelOf r) i (f .label-fits) l
 pub refused-empty : (s : List ℕ) (k number place : ℕ) → verdict s ≡ Refused number place → sectionOf s k ≡ []
 refused-empty s k number place e = section-refused s k number place e
 
-pub unknown-empty : (s : List ℕ) (k : ℕ) → 3 < k → sectionOf s k ≡ []
+pub unknown-empty : (s : List ℕ) (k : ℕ) → 4 < k → sectionOf s k ≡ []
 unknown-empty s k h = section-unknown s k h
 
 -- after one check, `section_unchecked` hands out the same parts as `section` [S12]

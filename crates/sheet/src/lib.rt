@@ -10,7 +10,7 @@ pub use parts::section;
 pub use parts::section_span;
 
 // The most bytes that a sheet has (proofs/Longest, longest).
-pub const LONGEST: usize = 1218;
+pub const LONGEST: usize = 1571;
 
 // What is found of a sheet: its refusal, and where the part of each section lies. All 0 where there is nothing to say.
 pub struct Judged {
