@@ -1,19 +1,25 @@
 -- Which lines the notice of two accepted sheets has for a slot, and that its bytes determine its lines. Assumes
 -- nothing.
 use Prim.Native.Nat.{ℕ, _+_, _<_}
-use mathlib.Core.Path.{_≡_, sym, ap, subst}
+use mathlib.Core.Path.{_≡_, refl, sym, ap, subst, _∙_}
 use mathlib.Core.List.{List, [], List·Memᴰ}
 use mathlib.Core.Logic.{_↔_}
 use native.Mathlib.Omega.{arith}
-use lib.ListN.{getD}
+use lib.Dec.{lit<}
+use lib.ListN.{length, getD, length-drop}
 use Rattle.lut.specs.declared.Input.{Input}
+use Rattle.lut.specs.declared.Input.the-variants.{Nothing}
 use Rattle.lut.specs.Telling.{HitAlike, TellsApart, NoneLess}
 use Rattle.peek.specs.Bytes.{Bytes}
 use Rattle.buffer.specs.declared.Verdict.the-variants.{Accepted}
 use Rattle.peek.proofs.Numbers.{bytes-drop}
 use Rattle.kinds.specs.Change.{Says}
-use Rattle.kinds.specs.Table.{TERMS, SUMS, hitOf, changeOf}
+use Rattle.state.specs.Description as state
+use Rattle.state.proofs.Theorems.{bytes-inverse}
+use Rattle.kinds.specs.Table.{TERMS, SUMS, STATES, kindOf, descriptionSize, descriptionFault, showsOf, changeOf}
+use Rattle.kinds.specs.declared.Change.{Change}
 use Rattle.kinds.specs.declared.Change.the-variants.{Oper, Word, Altr}
+use Rattle.kinds.proofs.Ways as ways
 use Rattle.kinds.proofs.Ways.{change-says, word-iff-alike}
 use Rattle.records.specs.Sections.{sections, labelSize, mostOf, labelOf}
 use Rattle.sheet.specs.Reading.{verdict}
@@ -47,6 +53,9 @@ module _ (s : List ℕ) (b : Bytes s) (ok : verdict s ≡ Accepted) (k slot : �
       let f = find-found slot (getD (parse s) k []) h in
       subst (Faultless k 0) (f .is) (record-faultless (section-ordered s k hk ok) (f .place) (f .within))
 
+  description-whole : Has k slot s → length (descriptionAt k slot s) ≡ descriptionSize k
+  description-whole h = omega (arith, length-drop (1 + labelSize) (recordOf k slot s), record-sound h .whole)
+
   has-below : Has k slot s → slot < mostOf k
   has-below h =
       let f = find-found slot (getD (parse s) k []) h in
@@ -74,19 +83,32 @@ module _ (old new : List ℕ) (bo : Bytes old) (bn : Bytes new) (ao : verdict ol
       ↔ (Has k slot old × Has k slot new × (labelOf (recordOf k slot old) ≡ labelOf (recordOf k slot new) → ⊥))
   name-line k slot = line-iff k slot Name
 
-  -- what is found of the two descriptions of a shared slot says what it should
-  says : (k slot : ℕ) → k < sections → Shared k slot old new
-      → let d = descriptionAt k slot old in let e = descriptionAt k slot new in Says (hitOf k d) (hitOf k e) (changeOf k d e)
-  says k slot hk s =
-      change-says k hk _ _ (description-bytes old bo ao k slot hk) (description-bytes new bn an k slot hk)
-      (record-sound old bo ao k slot hk (s .0) .description-fits) (record-sound new bn an k slot hk (s .1) .description-fits)
+  -- the two descriptions of a shared slot, where they differ
+  changed : (k slot : ℕ) → k < sections → Shared k slot old new → (descriptionAt k slot old ≡ descriptionAt k slot new → ⊥)
+      → ways.Changed (kindOf k) (descriptionAt k slot old) (descriptionAt k slot new)
+  unfolding descriptionSize descriptionFault
+  changed k slot hk s differ =
+      record {
+        old-bytes = description-bytes old bo ao k slot hk;
+        new-bytes = description-bytes new bn an k slot hk;
+        old-whole = description-whole old bo ao k slot hk (s .0);
+        new-whole = description-whole new bn an k slot hk (s .1);
+        old-faultless = record-sound old bo ao k slot hk (s .0) .description-fits;
+        new-faultless = record-sound new bn an k slot hk (s .1) .description-fits;
+        differ = differ;
+      }
+
+  -- what is found of them says what it should
+  says : (k slot : ℕ) → k < sections → Shared k slot old new → (descriptionAt k slot old ≡ descriptionAt k slot new → ⊥)
+      → let d = descriptionAt k slot old in let e = descriptionAt k slot new in Says (showsOf k d) (showsOf k e) (changeOf k d e)
+  says k slot hk s differ = change-says k hk _ _ (changed k slot hk s differ)
 
   -- the input that it shows tells the two apart [D3.6]
   pub line-shows-one-that-does : (k slot : ℕ) (input : Input) → k < sections → List·Memᴰ (line k slot (Changed (Altr input))) (noticeLines old new)
-      → TellsApart (hitOf k (descriptionAt k slot old)) (hitOf k (descriptionAt k slot new)) input
+      → TellsApart (showsOf k (descriptionAt k slot old)) (showsOf k (descriptionAt k slot new)) input
   line-shows-one-that-does k slot input hk i =
       let g = line-iff k slot (Changed (Altr input)) hk .0 i in
-      subst (Says (hitOf k (descriptionAt k slot old)) (hitOf k (descriptionAt k slot new))) (sym (g .3)) (says k slot hk (g .0, g .1))
+      subst (Says (showsOf k (descriptionAt k slot old)) (showsOf k (descriptionAt k slot new))) (sym (g .3)) (says k slot hk (g .0, g .1) (g .2))
 
   -- ALTR exactly where some input tells the two apart, in every section but the sums
   pub alteration-iff-some-input-tells : (k slot : ℕ) → k < sections → (k ≡ SUMS → ⊥) → Shared k slot old new
@@ -94,9 +116,9 @@ module _ (old new : List ℕ) (bo : Bytes old) (bn : Bytes new) (ao : verdict ol
   alteration-iff-some-input-tells k slot hk n s = (
     (λ a. record { input = a .input; tells = line-shows-one-that-does k slot (a .input) hk (a .there) }),
     (λ w.
-        let (i, q) = altr-shown k _ _ (λ o. n (oper-iff k hk _ _ .0 o)) (says k slot hk s) w in
-        let there = line-iff k slot (Changed (Altr i)) hk .1
-        (s .0, s .1, (λ p. w .tells .tells (ap (λ (x : List ℕ). hitOf k x (w .input)) p)), sym q) in
+        let differ : descriptionAt k slot old ≡ descriptionAt k slot new → ⊥ = λ p. w .tells .tells (ap (λ (x : List ℕ). showsOf k x (w .input)) p) in
+        let (i, q) = altr-shown k _ _ (λ o. n (oper-iff k hk _ _ .0 o)) (says k slot hk s differ) w in
+        let there = line-iff k slot (Changed (Altr i)) hk .1 (s .0, s .1, differ, sym q) in
         record { input = i; there = there }),
   )
 
@@ -104,18 +126,15 @@ module _ (old new : List ℕ) (bo : Bytes old) (bn : Bytes new) (ao : verdict ol
   pub word-iff-alike-on-every-input : (k slot : ℕ) → k < sections → (k ≡ SUMS → ⊥)
       → List·Memᴰ (line k slot (Changed Word)) (noticeLines old new)
       ↔ (Has k slot old × Has k slot new × (descriptionAt k slot old ≡ descriptionAt k slot new → ⊥)
-      × HitAlike (hitOf k (descriptionAt k slot old)) (hitOf k (descriptionAt k slot new)))
+      × HitAlike (showsOf k (descriptionAt k slot old)) (showsOf k (descriptionAt k slot new)))
   word-iff-alike-on-every-input k slot hk n = (
-    (λ i. let g = line-iff k slot (Changed Word) hk .0 i in (g .0, g .1, g .2, alike (g .0) (g .1) .0 (sym (g .3)))),
-    (λ g. line-iff k slot (Changed Word) hk .1 (g .0, g .1, g .2, sym (alike (g .0) (g .1) .1 (g .3)))),
+    (λ i. let g = line-iff k slot (Changed Word) hk .0 i in (g .0, g .1, g .2, alike (g .0, g .1) (g .2) .0 (sym (g .3)))),
+    (λ g. line-iff k slot (Changed Word) hk .1 (g .0, g .1, g .2, sym (alike (g .0, g .1) (g .2) .1 (g .3)))),
   )
     where
-      alike : Has k slot old → Has k slot new
-          → let d = descriptionAt k slot old in let e = descriptionAt k slot new in (changeOf k d e ≡ Word) ↔ HitAlike (hitOf k d) (hitOf k e)
-      alike ho hn =
-          word-iff-alike k hk _ _ (description-bytes old bo ao k slot hk) (description-bytes new bn an k slot hk)
-          (record-sound old bo ao k slot hk ho .description-fits) (record-sound new bn an k slot hk hn .description-fits)
-          (λ o. n (oper-iff k hk _ _ .0 o))
+      alike : Shared k slot old new → (descriptionAt k slot old ≡ descriptionAt k slot new → ⊥)
+          → let d = descriptionAt k slot old in let e = descriptionAt k slot new in (changeOf k d e ≡ Word) ↔ HitAlike (showsOf k d) (showsOf k e)
+      alike s differ = word-iff-alike k hk _ _ (changed k slot hk s differ) (λ o. n (oper-iff k hk _ _ .0 o))
 
   -- OPER where a sum's operations changed; no other section has it [N6]
   pub oper-line : (k slot : ℕ) → k < sections
@@ -126,9 +145,32 @@ module _ (old new : List ℕ) (bo : Bytes old) (bn : Bytes new) (ao : verdict ol
     (λ g. line-iff k slot (Changed Oper) hk .1 (g .1, g .2, g .3, sym (oper-iff k hk _ _ .1 (g .0)))),
   )
 
+  -- a state's line is ALTR where a field differs, shows nothing, and is never another [N6, N8, N10]
+  pub state-line : (slot : ℕ)
+      → List·Memᴰ (line STATES slot (Changed (Altr Nothing))) (noticeLines old new)
+      ↔ (Shared STATES slot old new × (state.fromBytes (descriptionAt STATES slot old) ≡ state.fromBytes (descriptionAt STATES slot new) → ⊥))
+  unfolding changeOf kindOf descriptionSize
+  state-line slot = (
+    (λ i.
+        let g = line-iff STATES slot (Changed (Altr Nothing)) (lit< tt) .0 i in
+        ((g .0, g .1), (λ q. g .2 (fields-all (g .0) (g .1) q)))),
+    (λ g. line-iff STATES slot (Changed (Altr Nothing)) (lit< tt) .1 (g .0 .0, g .0 .1, (λ p. g .1 (ap state.fromBytes p)), refl)),
+  )
+    where
+      fields-all : Has STATES slot old → Has STATES slot new → state.fromBytes (descriptionAt STATES slot old) ≡ state.fromBytes (descriptionAt STATES slot new)
+          → descriptionAt STATES slot old ≡ descriptionAt STATES slot new
+      fields-all ho hn q =
+          sym (bytes-inverse _ (description-bytes old bo ao STATES slot (lit< tt)) (description-whole old bo ao STATES slot (lit< tt) ho))
+          ∙ ap state.toBytes q
+          ∙ bytes-inverse _ (description-bytes new bn an STATES slot (lit< tt)) (description-whole new bn an STATES slot (lit< tt) hn)
+
+  pub state-line-alone : (slot : ℕ) (c : Change) → List·Memᴰ (line STATES slot (Changed c)) (noticeLines old new) → c ≡ Altr Nothing
+  unfolding changeOf kindOf
+  state-line-alone slot c i = line-iff STATES slot (Changed c) (lit< tt) .0 i .3
+
   -- a term's is the least [D3.7]
   pub pattern-line-shows-the-least : (slot : ℕ) (input : Input) → List·Memᴰ (line TERMS slot (Changed (Altr input))) (noticeLines old new)
-      → NoneLess (hitOf TERMS (descriptionAt TERMS slot old)) (hitOf TERMS (descriptionAt TERMS slot new)) input
+      → NoneLess (showsOf TERMS (descriptionAt TERMS slot old)) (showsOf TERMS (descriptionAt TERMS slot new)) input
   pattern-line-shows-the-least slot input i =
       let hk : TERMS < sections = omega arith in
       let g = line-iff TERMS slot (Changed (Altr input)) hk .0 i in

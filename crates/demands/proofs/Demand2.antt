@@ -2,7 +2,7 @@
 -- enough for every input: Sizes. Assumes nothing.
 use Prim.Native.Nat.{ℕ, _≤_, _<_}
 use mathlib.Core.Path.{_≡_, refl, sym, _∙_}
-use mathlib.Core.List.{List, []}
+use mathlib.Core.List.{List, [], _∷_}
 use mathlib.Core.Logic.{_↔_}
 use native.Mathlib.Omega.{arith}
 use lib.ListN.{length, getD, take}
@@ -15,7 +15,7 @@ use Rattle.buffer.specs.declared.Verdict.{Verdict}
 use Rattle.buffer.specs.declared.Verdict.the-variants.{Accepted}
 use Rattle.buffer.specs.declared.Verdict.the-variants as Verdict
 use Rattle.records.specs.Sections.{sections, fieldOf, descriptionOf}
-use Rattle.kinds.specs.Table.{TERMS, RANGES, EDGES, kindOf, hitOf}
+use Rattle.kinds.specs.Table.{TERMS, RANGES, EDGES, STATES}
 use Rattle.sheet.specs.Reading.{verdict}
 use Rattle.sheet.specs.Parsed.{parse, render}
 use Rattle.term.specs.Rule.{termHit}
@@ -24,6 +24,8 @@ use Rattle.range.specs.Rule.{rangeHit}
 use Rattle.range.specs.Model.{runRange}
 use Rattle.edge.specs.Rule.{edgeHit}
 use Rattle.edge.specs.Model.{runEdge}
+use Rattle.state.specs.Words.{wordOf}
+use Rattle.state.specs.Description.{fromBytes}
 use Rattle.compiler.specs.Stream.{streamOf, compiled}
 use Rattle.compiler.proofs.Theorems as compiler
 use Rattle.compiler.specs.Sent.{SentAt}
@@ -55,22 +57,24 @@ module _ (sheet : List ℕ) (b : Bytes sheet) (ok : verdict sheet ≡ Accepted) 
   pub pattern-words-hit : (there : SentAt (streamOf (parse sheet)) TERMS (sent.recordOf sheet TERMS i)) (sample : ℕ)
       → let d = descriptionOf (sent.recordOf sheet TERMS i) in
       runTerm (sent.streamWords sheet TERMS i there) sample ≡ hitOrMiss (termHit (fieldOf d 0) (fieldOf d 1) sample)
-  unfolding hitOf kindOf
   pattern-words-hit = compiler.sheet-term-hits sheet b ok i
 
   -- a range's words likewise [D2.3]
   pub range-words-hit : i < length (getD (parse sheet) RANGES []) → (there : SentAt (streamOf (parse sheet)) RANGES (sent.recordOf sheet RANGES i)) (sample : ℕ)
       → let d = descriptionOf (sent.recordOf sheet RANGES i) in
       runRange (sent.streamWords sheet RANGES i there) sample ≡ hitOrMiss (rangeHit (fieldOf d 0) (fieldOf d 1) (fieldOf d 2) sample)
-  unfolding hitOf kindOf
   range-words-hit = compiler.sheet-range-hits sheet b ok i
 
   -- an edge's words likewise, on an earlier and a later sample [D2.4]
   pub edge-words-hit : (there : SentAt (streamOf (parse sheet)) EDGES (sent.recordOf sheet EDGES i)) (earlier later : ℕ)
       → let d = descriptionOf (sent.recordOf sheet EDGES i) in
       runEdge (sent.streamWords sheet EDGES i there) earlier later ≡ hitOrMiss (edgeHit (fieldOf d 0) (fieldOf d 1) (fieldOf d 2) earlier later)
-  unfolding hitOf kindOf
   edge-words-hit = compiler.sheet-edge-hits sheet b ok i
+
+  -- a state's one word has each of its fields at its bits [D2.1, W19]
+  pub state-word-has-the-fields : (there : SentAt (streamOf (parse sheet)) STATES (sent.recordOf sheet STATES i))
+      → sent.streamWords sheet STATES i there ≡ wordOf (fromBytes (descriptionOf (sent.recordOf sheet STATES i))) ∷ []
+  state-word-has-the-fields = compiler.sheet-state-words sheet b ok i
 
 -- what was compiled is read back as the sheet with blank labels and each target cut to its mask [D2.5]
 pub reading-gives-the-sheet : (sheet : List ℕ) → Bytes sheet → verdict sheet ≡ Accepted

@@ -6,16 +6,20 @@ use mathlib.Core.Path.{_≡_, sym, ap, _∙_}
 use mathlib.Core.List.{List, [], map, List·Memᴰ}
 use mathlib.Core.Logic.{_↔_}
 use native.Mathlib.Omega.{arith}
+use lib.Dec.{lit<}
 use lib.ListN.{length, getD, drop}
 use lib.Seq.{take-append-seam}
 use Rattle.lut.specs.declared.Input.{Input}
+use Rattle.lut.specs.declared.Input.the-variants.{Nothing}
 use Rattle.lut.specs.Input.{Fits}
 use Rattle.lut.specs.Telling.{HitAlike, TellsApart, NoneLess}
 use Rattle.peek.specs.Bytes.{Bytes}
 use Rattle.buffer.specs.declared.Verdict.the-variants.{Accepted}
 use Rattle.range.specs.Description.{fromBytes}
+use Rattle.state.specs.Description as state
 use Rattle.range_telling.specs.Matter.{DroppedWords}
-use Rattle.kinds.specs.Table.{TERMS, RANGES, EDGES, SUMS, sections, hitOf}
+use Rattle.kinds.specs.Table.{TERMS, RANGES, EDGES, SUMS, STATES, sections, showsOf}
+use Rattle.kinds.specs.declared.Change.{Change}
 use Rattle.kinds.specs.declared.Change.the-variants.{Altr}
 use Rattle.records.specs.Sections.{descriptionOf}
 use Rattle.sheet.specs.Reading.{verdict}
@@ -59,25 +63,30 @@ chain-words-are-those-sent k d a there =
 
 -- equal words of two patterns are equal behaviour, and the other way round [D3.1]
 pub equal-pattern-words-iff-alike : (d e : List ℕ) → AcceptedDescription TERMS d → AcceptedDescription TERMS e
-    → (chainWordsOf TERMS d ≡ chainWordsOf TERMS e) ↔ HitAlike (hitOf TERMS d) (hitOf TERMS e)
+    → (chainWordsOf TERMS d ≡ chainWordsOf TERMS e) ↔ HitAlike (showsOf TERMS d) (showsOf TERMS e)
 equal-pattern-words-iff-alike = words.patterns-alike
 
 -- the same of two edges [D3.2]
 pub equal-edge-words-iff-alike : (d e : List ℕ) → AcceptedDescription EDGES d → AcceptedDescription EDGES e
-    → (chainWordsOf EDGES d ≡ chainWordsOf EDGES e) ↔ HitAlike (hitOf EDGES d) (hitOf EDGES e)
+    → (chainWordsOf EDGES d ≡ chainWordsOf EDGES e) ↔ HitAlike (showsOf EDGES d) (showsOf EDGES e)
 equal-edge-words-iff-alike = words.edges-alike
 
 -- ranges with the same words behave alike [D3.3]
 pub ranges-that-share-words-hit-alike : (d e : List ℕ) → AcceptedDescription RANGES d → AcceptedDescription RANGES e
-    → chainWordsOf RANGES d ≡ chainWordsOf RANGES e → HitAlike (hitOf RANGES d) (hitOf RANGES e)
+    → chainWordsOf RANGES d ≡ chainWordsOf RANGES e → HitAlike (showsOf RANGES d) (showsOf RANGES e)
 ranges-that-share-words-hit-alike = words.ranges-alike
 
 -- with the lines dropped that cannot matter, equal words of two ranges are equal behaviour, and the other way round [D3.4]
 -- `DroppedWords` says of words that they are a range's with FFFF, in both chains, at each line that cannot matter;
 -- there is exactly one such list for each accepted range (EqualWords, `dropped-words-are`).
 pub dropped-words-iff-alike : (d e : List ℕ) → AcceptedDescription RANGES d → AcceptedDescription RANGES e → (ws vs : List ℕ)
-    → DroppedWords (fromBytes d) ws → DroppedWords (fromBytes e) vs → (ws ≡ vs) ↔ HitAlike (hitOf RANGES d) (hitOf RANGES e)
+    → DroppedWords (fromBytes d) ws → DroppedWords (fromBytes e) vs → (ws ≡ vs) ↔ HitAlike (showsOf RANGES d) (showsOf RANGES e)
 dropped-words-iff-alike = words.dropped-alike
+
+-- equal words of two states are equal fields, and the other way round [D3.10]
+pub equal-state-words-iff-same-fields : (d e : List ℕ) → AcceptedDescription STATES d → AcceptedDescription STATES e
+    → (chainWordsOf STATES d ≡ chainWordsOf STATES e) ↔ (state.fromBytes d ≡ state.fromBytes e)
+equal-state-words-iff-same-fields = words.states-same
 
 -- of any two accepted sheets, and the bytes that the call wrote, given room for the longest notice
 module _ (old new : List ℕ) (bo : Bytes old) (bn : Bytes new) (ao : verdict old ≡ Accepted) (an : verdict new ≡ Accepted)
@@ -103,7 +112,7 @@ module _ (old new : List ℕ) (bo : Bytes old) (bn : Bytes new) (ao : verdict ol
 
   -- the input that an ALTR line shows tells the two apart [D3.6]
   pub line-shows-one-that-does : (k slot : ℕ) (input : Input) → k < sections → Fits input → Stands (written r out′) k slot (Changed (Altr input))
-      → TellsApart (hitOf k (descriptionAt k slot old)) (hitOf k (descriptionAt k slot new)) input
+      → TellsApart (showsOf k (descriptionAt k slot old)) (showsOf k (descriptionAt k slot new)) input
   line-shows-one-that-does k slot input hk f i =
       lines.line-shows-one-that-does old new bo bn ao an k slot input hk (stands-iff k slot (Changed (Altr input)) hk f .0 i)
 
@@ -120,9 +129,22 @@ module _ (old new : List ℕ) (bo : Bytes old) (bn : Bytes new) (ao : verdict ol
 
   -- a term's line shows the least [D3.7]
   pub pattern-line-shows-the-least : (slot : ℕ) (input : Input) → Fits input → Stands (written r out′) TERMS slot (Changed (Altr input))
-      → NoneLess (hitOf TERMS (descriptionAt TERMS slot old)) (hitOf TERMS (descriptionAt TERMS slot new)) input
+      → NoneLess (showsOf TERMS (descriptionAt TERMS slot old)) (showsOf TERMS (descriptionAt TERMS slot new)) input
   pattern-line-shows-the-least slot input f i =
       lines.pattern-line-shows-the-least old new bo bn ao an slot input (stands-iff TERMS slot (Changed (Altr input)) (omega arith) f .0 i)
+
+  -- a state's line is ALTR without a sample where a field differs, and only there [D3.10]
+  pub state-line-iff-a-field-differs : (slot : ℕ)
+      → Stands (written r out′) STATES slot (Changed (Altr Nothing))
+      ↔ (Shared STATES slot old new × (state.fromBytes (descriptionAt STATES slot old) ≡ state.fromBytes (descriptionAt STATES slot new) → ⊥))
+  state-line-iff-a-field-differs slot =
+      let there = stands-iff STATES slot (Changed (Altr Nothing)) (lit< tt) tt in
+      let says = lines.state-line old new bo bn ao an slot in
+      (λ i. says .0 (there .0 i), λ g. there .1 (says .1 g))
+
+  -- and no other line tells of its fields [D3.10]
+  pub state-has-no-other-line : (slot : ℕ) (c : Change) → Shows (Changed c) → Stands (written r out′) STATES slot (Changed c) → c ≡ Altr Nothing
+  state-has-no-other-line slot c s i = lines.state-line-alone old new bo bn ao an slot c (stands-iff STATES slot (Changed c) (lit< tt) s .0 i)
 
   -- a slot that one sheet alone has gets NEW or GONE, and no other slot does [D3.8]
   pub new-line : (k slot : ℕ) → k < sections → Stands (written r out′) k slot New ↔ ((recordOf k slot old ≡ []) × Has k slot new)

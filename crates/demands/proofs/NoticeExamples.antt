@@ -24,12 +24,18 @@ use Rattle.notice.specs.Text as text
 use Rattle.notice.specs.Findings.{sharedLines, slotLines}
 use Rattle.notice.specs.Notice.{linesFrom, sectionsLines, noticeLines, noticeText}
 
--- a sheet of these terms and ranges, and a record of a slot, a label and numbers
+-- a sheet of these terms and ranges, one of these sums and states, and a record of a slot, a label and numbers
 sheetOf : (terms ranges : List (List ℕ)) → List ℕ
-sheetOf terms ranges = render (terms ∷ ranges ∷ [] ∷ [] ∷ [])
+sheetOf terms ranges = render (terms ∷ ranges ∷ [] ∷ [] ∷ [] ∷ [])
+
+programmeOf : (sums states : List (List ℕ)) → List ℕ
+programmeOf sums states = render ([] ∷ [] ∷ [] ∷ sums ∷ states ∷ [])
 
 recordOf : (slot : ℕ) (label numbers : List ℕ) → List ℕ
 recordOf slot label numbers = slot ∷ (label ++ fieldBytes numbers)
+
+stateOf : (slot : ℕ) (label : List ℕ) (number : ℕ) → List ℕ
+stateOf slot label number = recordOf slot label (number ∷ []) ++ replicate 9 0
 
 -- DOORLOCK; DOORLK and two spaces; two more labels
 doorlock : List ℕ
@@ -62,6 +68,12 @@ TERM = 84 ∷ 69 ∷ 82 ∷ 77 ∷ []
 RANG : List ℕ
 RANG = 82 ∷ 65 ∷ 78 ∷ 71 ∷ []
 
+SUMS : List ℕ
+SUMS = 83 ∷ 85 ∷ 77 ∷ 83 ∷ []
+
+STAT : List ℕ
+STAT = 83 ∷ 84 ∷ 65 ∷ 84 ∷ []
+
 NAME : List ℕ
 NAME = 78 ∷ 65 ∷ 77 ∷ 69 ∷ []
 
@@ -73,6 +85,9 @@ GONE = 71 ∷ 79 ∷ 78 ∷ 69 ∷ []
 
 WORD : List ℕ
 WORD = 87 ∷ 79 ∷ 82 ∷ 68 ∷ []
+
+ALTR : List ℕ
+ALTR = 65 ∷ 76 ∷ 84 ∷ 82 ∷ []
 
 -- ALTR 00000004
 ALTR4 : List ℕ
@@ -98,6 +113,12 @@ pairs =
     -- 2..3 under mask 3 against 1..1 under mask 2
     ∷ pair (sheetOf [] (recordOf 0 left (2 ∷ 3 ∷ 3 ∷ []) ∷ [])) (sheetOf [] (recordOf 0 left (1 ∷ 1 ∷ 2 ∷ []) ∷ []))
     (line RANG (48 ∷ 48 ∷ []) WORD)
+    -- states, behind the sums: number 0 against number 1 (ALTR and nothing behind it), a label, one gone, one new
+    ∷ pair
+    (programmeOf ((47 ∷ (left ++ replicate 11 0)) ∷ []) (stateOf 0 left 0 ∷ stateOf 1 left 7 ∷ stateOf 14 left 1 ∷ []))
+    (programmeOf [] (stateOf 0 left 1 ∷ stateOf 1 right 7 ∷ stateOf 15 left 1 ∷ []))
+    (line SUMS (52 ∷ 55 ∷ []) GONE ++ line STAT (48 ∷ 48 ∷ []) ALTR ++ line STAT (48 ∷ 49 ∷ []) NAME
+    ++ line STAT (49 ∷ 52 ∷ []) GONE ++ line STAT (49 ∷ 53 ∷ []) NEW)
     ∷ []
 
 pub allGive : List Pair → Bool
@@ -105,5 +126,5 @@ allGive [] = true
 allGive (p ∷ ps) = same (noticeText (p .old) (p .new)) (p .text) && allGive ps
 
 pub notices-hold : T (allGive pairs)
-unfolding allGive pairs pair sheetOf recordOf doorlock doorlk left right line TERM RANG NAME NEW GONE WORD ALTR4 fieldBytes render joined parse sectionsFrom recordsFrom kindOf descriptionSize mostOf find same u32At noticeText noticeLines sectionsLines linesFrom slotLines sharedLines nameOf changeOf term-kind.telling range-telling-kind.telling text.render text.renderAll termTelling trailingZeros rangeTelling tellReduced tellBounds tellMasks firstDiffer tellLine turnSample turnValue reduceOf reduceFrom gathered scattered dropLowest flipLine rangeHit
+unfolding allGive pairs pair sheetOf programmeOf recordOf stateOf doorlock doorlk left right line TERM RANG SUMS STAT NAME NEW GONE WORD ALTR ALTR4 fieldBytes render joined parse sectionsFrom recordsFrom kindOf descriptionSize mostOf find same u32At noticeText noticeLines sectionsLines linesFrom slotLines sharedLines nameOf changeOf term-kind.telling range-telling-kind.telling text.render text.renderAll termTelling trailingZeros rangeTelling tellReduced tellBounds tellMasks firstDiffer tellLine turnSample turnValue reduceOf reduceFrom gathered scattered dropLowest flipLine rangeHit
 notices-hold = tt

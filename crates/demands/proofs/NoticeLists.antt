@@ -80,7 +80,7 @@ sections-rising (suc n) k p q =
     (climbs-below ((k + suc n) * 512) end (sections-rising n (k + 1) p q))
 
 -- 01: by section and then slot
-pub notice-rising : (old new : List ℕ) → Rising 0 2048 (noticeLines old new)
+pub notice-rising : (old new : List ℕ) → Rising 0 (sections * 512) (noticeLines old new)
 unfolding noticeLines
 notice-rising old new = sections-rising sections 0 (parse old) (parse new)
 

@@ -44,6 +44,7 @@ use Rattle.edge.specs.Description as edge-kind
 use Rattle.term.specs.Description as term-kind
 use Rattle.range.specs.Description as range-kind
 use Rattle.sum.specs.Description as sum-kind
+use Rattle.state.specs.Description as state-kind
 
 -- n records from slot s on, each with this label byte throughout and this description
 slots : (n s label : ℕ) (d : List ℕ) → List (List ℕ)
@@ -58,6 +59,7 @@ older =
     ∷ slots 2 0 0x20 (fieldBytes (1 ∷ 1 ∷ 1 ∷ []))
     ∷ slots 2 0 0x20 (fieldBytes (1 ∷ 0 ∷ 0 ∷ []))
     ∷ slots 48 0 0x20 (replicate 11 0)
+    ∷ slots 16 0 0x20 (replicate 13 0)
     ∷ [])
 
 pub newer : List ℕ
@@ -67,6 +69,7 @@ newer =
     ∷ slots 2 0 0x21 (fieldBytes (1 ∷ 2 ∷ 3 ∷ []))
     ∷ slots 2 0 0x21 (fieldBytes (0 ∷ 1 ∷ 0 ∷ []))
     ∷ slots 48 0 0x21 (replicate 11 1)
+    ∷ slots 16 0 0x21 (fieldBytes (1 ∷ []) ++ replicate 9 1)
     ∷ [])
 
 -- no notice is longer than 2,172 bytes, and one of two accepted sheets is as long [N11]
@@ -78,7 +81,7 @@ unfolding fieldBytes slots older newer render joined parse sectionsFrom recordsF
 longest-notice-reached = refl
 
 pub longest-notice-sheets : (verdict older ≡ Accepted) × (verdict newer ≡ Accepted)
-unfolding fieldBytes slots older newer render joined kindOf descriptionSize mostOf descriptionFault term-kind.fault range-kind.fault edge-kind.fault sum-kind.fault u32At allWithin rangeFault ones overLines recordFault recordsVerdict countVerdict sectionVerdict sectionsVerdict verdict
+unfolding fieldBytes slots older newer render joined kindOf descriptionSize mostOf descriptionFault term-kind.fault range-kind.fault edge-kind.fault sum-kind.fault state-kind.fault u32At allWithin rangeFault ones overLines recordFault recordsVerdict countVerdict sectionVerdict sectionsVerdict verdict
 longest-notice-sheets = (refl, refl)
 
 -- no accepted sheet is longer than 1,571 bytes, and one is as long [S8]

@@ -16,7 +16,7 @@ use Rattle.kinds.specs.declared.Change.the-variants.{Oper, Word, Altr}
 use Rattle.notice.specs.declared.Finding.{Finding}
 use Rattle.notice.specs.declared.Finding.the-variants.{New, Gone, Name, Changed}
 use Rattle.notice.specs.declared.Line.{Line}
-use Rattle.notice.specs.Text.{hexDigit, hex, slotText, inputText, findingText, render, renderAll}
+use Rattle.notice.specs.Text.{hex, slotText, inputText, findingText, render, renderAll}
 use Rattle.demands.specs.Written.{splitFrom, linesIn}
 use Rattle.demands.proofs.NoticeBytes.{Valid, AllValid, digit-not-end, same-text-same-line}
 

@@ -34,7 +34,7 @@ pub data Example : Type 0 where
 
 -- a sheet with one range, in slot 0, and a blank label [E6, E7]
 unfoldable pub sheetWith : (lower upper mask : ℕ) → List ℕ
-sheetWith lower upper mask = render ([] ∷ ((0 ∷ (replicate labelSize 0x20 ++ fieldBytes (lower ∷ upper ∷ mask ∷ []))) ∷ []) ∷ [] ∷ [] ∷ [])
+sheetWith lower upper mask = render ([] ∷ ((0 ∷ (replicate labelSize 0x20 ++ fieldBytes (lower ∷ upper ∷ mask ∷ []))) ∷ []) ∷ [] ∷ [] ∷ [] ∷ [])
 
 -- the notice `RANG 00 WORD` [E7]
 abbrev pub wordLine : List ℕ

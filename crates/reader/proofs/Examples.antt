@@ -41,6 +41,8 @@ use Rattle.term.specs.Description as term-kind
 use Rattle.range.specs.Description as range-kind
 use Rattle.edge.specs.Description as edge-kind
 use Rattle.sum.specs.Description as sum-kind
+use Rattle.state.specs.Description as state-kind
+use Rattle.state.specs.Back.{stateOf, bitsFrom}
 
 -- ---- any stream of 1 to 4 bytes: 13 at 0
 
@@ -52,6 +54,13 @@ short-stream s h l = rw (rests-some s h, command-short selectOp 0 s l)
 
 pub term : List ℕ
 term = chain 0x21 (0xFFFFFFFF ∷ 0xFFFFFFFF ∷ 0xFFFFFFFF ∷ 0xFFFF0020 ∷ [])
+
+-- two states, the first and the last, with a word that has every bit
+pub first : List ℕ
+first = chain 0x00 (0xFFFFFFFF ∷ [])
+
+pub last : List ℕ
+last = chain 0x0F (0 ∷ [])
 
 -- fourteen words FFFFFFFF, and two more
 pub ends : ℕ → ℕ → List ℕ
@@ -90,10 +99,17 @@ table =
     ∷ gives (command selectOp 0x120) (Refused 15 0)
     ∷ gives upper (Refused 15 0)
     ∷ gives (term ++ term) (Refused 15 25)
+    -- no state 16; a state behind a term, though its section is behind; two states that fall
+    ∷ gives (command selectOp 0x10) (Refused 15 0)
+    ∷ gives (term ++ first) (Refused 15 25)
+    ∷ gives (last ++ first) (Refused 15 10)
     -- inside an item: no word, half a word, a select where a word is due
     ∷ gives (take 20 term) (Refused 13 20)
     ∷ gives (take 24 term) (Refused 13 20)
     ∷ gives (take 20 term ++ lower) (Refused 14 20)
+    -- a state has one word, no less and no more
+    ∷ gives (command selectOp 0x00) (Refused 13 5)
+    ∷ gives (first ++ command loadOp 0) (Refused 14 10)
     -- between a range's chains: the end, a word, another address than 31
     ∷ gives lower (Refused 13 85)
     ∷ gives (lower ++ command loadOp 0) (Refused 14 85)
@@ -106,16 +122,16 @@ table =
     ∷ gives (chain 0x34 (0 ∷ 0 ∷ 0 ∷ 0 ∷ 0 ∷ 0 ∷ 0 ∷ 0xAFAF ∷ [])) (Refused 16 0)
     ∷ gives (chain 0x40 (0x10000 ∷ 0 ∷ 0 ∷ 0 ∷ 0 ∷ 0 ∷ [])) (Refused 16 0)
     -- nothing to refuse
-    ∷ gives (term ++ (lower ++ upper)) Accepted
+    ∷ gives (first ++ (last ++ (term ++ (lower ++ upper)))) Accepted
     ∷ []
 
 pub examples : T (allHold table)
-unfolding allHold agree gives table term ends lower upper streamVerdict itemsVerdict rests restsFrom stepSize itemVerdict firstVerdict chainsVerdict descriptionIn descriptionRead term-kind.back range-kind.back edge-kind.back sum-kind.back fieldBytes wordsRead commandVerdict loadsVerdict wordsIn loads itemSize sizeOf lengthsOf chainCount chainLength addressOf kindOf mostOf sectionAt sectionFrom slotAt slotFrom u32At readTerm partOf linesAfter wordPart nibbleMask trailingZeros tableOf down term-words.termWords term-words.chainWord term-words.nibbleTable same readRange linesWith chainBound fromLines gathered scattered ones range-words.sentWords range-words.chainWords range-words.lowerValue range-words.upperValue covers wishFrom overLines edge-words.pairTable codesOf opCode allWithin
+unfolding allHold agree gives table term first last ends lower upper streamVerdict itemsVerdict rests restsFrom stepSize itemVerdict firstVerdict chainsVerdict descriptionIn descriptionRead term-kind.back range-kind.back edge-kind.back sum-kind.back state-kind.back stateOf bitsFrom fieldBytes wordsRead commandVerdict loadsVerdict wordsIn loads itemSize sizeOf lengthsOf chainCount chainLength addressOf kindOf mostOf sectionAt sectionFrom slotAt slotFrom u32At readTerm partOf linesAfter wordPart nibbleMask trailingZeros tableOf down term-words.termWords term-words.chainWord term-words.nibbleTable same readRange linesWith chainBound fromLines gathered scattered ones range-words.sentWords range-words.chainWords range-words.lowerValue range-words.upperValue covers wishFrom overLines edge-words.pairTable codesOf opCode allWithin
 examples = tt
 
 -- ---- what is read
 
--- the stream of no bytes is read as four zeros [C8]
-pub empty-stream : readBack [] ≡ bytes (0 ∷ 0 ∷ 0 ∷ 0 ∷ [])
+-- the stream of no bytes is read as five zeros [C8]
+pub empty-stream : readBack [] ≡ bytes (replicate 5 0)
 unfolding streamVerdict itemsVerdict rests restsFrom sheetIn sectionsOf recordsOf render joined
 empty-stream = refl

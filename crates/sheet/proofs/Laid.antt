@@ -1,9 +1,8 @@
 -- Where the sections of an accepted sheet lie, found section by section as the loop of `lay_out` does. Assumes nothing.
 use native.Mathlib.Nat.{zero-add, add-zero}
-use native.Mathlib.Numerals.{add-one}
 use native.Mathlib.Omega.{arith}
 use Prim.Native.Nat.{ℕ, zero, suc, _+_, _-_, _*_, _≤_, _<_}
-use mathlib.Core.List.{List, [], _∷_}
+use mathlib.Core.List.{List, _∷_}
 use mathlib.Core.Path.{_≡_, refl, sym, ap, ap₂, _∙_}
 use lib.ListN.{length, getD, set, take, drop, replicate, length-set, length-take, length-drop}
 use Rattle.buffer.specs.Verdict.{verdictNumber, verdictPlace}
@@ -12,7 +11,7 @@ use Rattle.lines.proofs.Fill.{fill-more, fill-done}
 use Rattle.records.specs.Sections.{sections, recordSize, sectionSize}
 use Rattle.sheet.specs.declared.Judged.{Judged}
 use Rattle.sheet.specs.Reading.{verdict}
-use Rattle.sheet.specs.Parts.{offsetOf, countOf, sectionUnchecked, sectionOf, sectionStart, eachFrom, judgedOf}
+use Rattle.sheet.specs.Parts.{offsetOf, countOf, sectionOf, sectionStart, eachFrom, judgedOf}
 use Rattle.sheet.proofs.Numbered.{accepted-numbered, refused-numbered}
 use Rattle.sheet.proofs.Reading.{accepted-fits, offset-next, unchecked, unchecked-known, start-known, section-refused, start-refused}
 

@@ -1,6 +1,6 @@
 -- What is promised of the set-up sheet, each under the rule that asks for it. Assumes nothing.
 use Prim.Native.Nat.{ℕ, _≤_, _<_}
-use mathlib.Core.List.{List, [], _∷_}
+use mathlib.Core.List.{List, []}
 use mathlib.Core.Logic.{_↔_}
 use mathlib.Core.Path.{_≡_, refl, sym, ap, _∙_}
 use lib.Dec.{lit<}
@@ -8,7 +8,7 @@ use lib.ListN.{length, getD, take, replicate}
 use Rattle.peek.specs.Bytes.{Bytes}
 use Rattle.buffer.specs.declared.Verdict.the-variants.{Accepted, Refused}
 use Rattle.compare.proofs.Within.{within-at}
-use Rattle.records.specs.Sections.{sections, kindOf, mostOf, descriptionSize, descriptionFault, slotOf, labelOf}
+use Rattle.records.specs.Sections.{sections, kindOf, mostOf, descriptionSize, slotOf, labelOf}
 use Rattle.sheet.specs.Reading.{recordsVerdict, countVerdict, sectionVerdict, sectionsVerdict, verdict}
 use Rattle.records.specs.Records.{recordAt, recordCount, find, front}
 use Rattle.sheet.specs.Parts.{sectionUnchecked, sectionOf}

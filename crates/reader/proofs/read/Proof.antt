@@ -1,6 +1,9 @@
 -- `read` meets its contract: the stream's refusal, or the sheet that the room holds after the walk. Assumes nothing.
 use mathlib.Core.Path.{refl, sym, _∙_}
 use Rattle.buffer.proofs.Writing.{refused, accepted, delivers}
+use Prim.Native.Nat.{_*_}
+use Rattle.kinds.specs.Table.{sections}
+use Rattle.reader.specs.Taking.{partSize}
 use Rattle.reader.proofs.Theorems.{read-says}
 use Rattle.reader.proofs.Walking.{empty-room}
 use borrow.Author.Needs.{needs}
@@ -8,7 +11,7 @@ use Rattle.reader.proofs.read.Statement.{statement}
 use Rattle.reader.proofs.read.Tie as tie
 
 walk-requires : tie.Need-walk-requires
-walk-requires c κs = empty-room 4096 refl
+walk-requires c κs = empty-room (sections * partSize) refl
 
 returns : tie.Need-returns
 returns c =
