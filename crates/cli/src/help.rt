@@ -103,7 +103,7 @@ fn write_more(verb: u8, fd: i32) -> bool {
         ),
         words::SECTION => io::write_all(
             fd,
-            b"Writes the records of one section, without their count: 0 terms, 1 ranges, 2 edges, 3 sums, 4 states; a greater N gives nothing.\nBytes are not written to a terminal, unless with --force.\n",
+            b"Writes the records of one section, without their count: 0 terms, 1 ranges, 2 edges, 3 sums, 4 states.\nA greater N gives nothing. Bytes are not written to a terminal, unless with --force.\n",
         ),
         words::COMPILE => io::write_all(
             fd,

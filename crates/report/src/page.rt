@@ -126,6 +126,6 @@ fn write_ending(fd: i32) -> bool {
 fn write_words(fd: i32) -> bool {
     io::write_all(
         fd,
-        b"\nWhat the words mean, slot by slot (TERM terms, RANG ranges, EDGE edges, SUMS sums,\nSTAT states):\n  NAME  the label differs; what is caught is not altered by that\n  ALTR  what is caught differs; the input that follows tells the two apart\n        (one sample in hex; for an edge the earlier and the later sample);\n        for a state, where no input follows: its number, else state or flags differ\n  WORD  the description differs, but no input tells the two apart\n  OPER  a sum's operations differ\n  NEW   a slot that only the new sheet has\n  GONE  a slot that only the old sheet has\nA slot without a line is the same in both sheets, its label too.\n",
+        b"\nWhat the words mean (TERM terms, RANG ranges, EDGE edges, SUMS sums, STAT states):\n  NAME  the label differs; what is caught is not altered by that\n  ALTR  what is caught differs; the input that follows tells the two apart\n        (one sample in hex; for an edge the earlier and the later sample);\n        for a state, where no input follows: its number, else state or flags differ\n  WORD  the description differs, but no input tells the two apart\n  OPER  a sum's operations differ\n  NEW   a slot that only the new sheet has\n  GONE  a slot that only the old sheet has\nA slot without a line is the same in both sheets, its label too.\n",
     )
 }
