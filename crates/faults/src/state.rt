@@ -1,5 +1,7 @@
 // The field of a state that is too big for its place, beside the most that fits.
 use crate::values::first_outside;
+use text::ELSE_STATE;
+use text::FLAGS;
 use text::put_number;
 use text::put_trimmed;
 
@@ -8,11 +10,6 @@ const NUMBER_LAST: u32 = 0xf_ffff;
 const STATE_LAST: u8 = 15;
 
 const FLAG_LAST: u8 = 1;
-
-// Where the else state and the flags stand in a description.
-const ELSE_STATE: usize = 4;
-
-const FLAGS: usize = 5;
 
 // The first such field.
 pub(crate) fn put_state(out: &mut [u8], at: usize, description: &[u8]) -> usize {

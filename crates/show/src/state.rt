@@ -1,14 +1,9 @@
 // A state as text: its number, its else state, and the flags that are set.
+use text::ELSE_STATE;
+use text::FLAGS;
 use text::put_bits;
 use text::put_number;
 use text::put_trimmed;
-
-// Where the else state and the flags stand in a description, and how many flags there are.
-const ELSE_STATE: usize = 4;
-
-const FLAGS: usize = 5;
-
-const FLAG_COUNT: usize = 8;
 
 pub(crate) fn put_state(out: &mut [u8], at: usize, description: &[u8]) -> usize {
     let a = put_bits(out, at, b" number ", peek::u32_at(description, 0), 8);
@@ -31,8 +26,8 @@ pub(crate) fn put_state(out: &mut [u8], at: usize, description: &[u8]) -> usize 
 fn put_flags(out: &mut [u8], at: usize, flags: &[u8]) -> usize {
     let mut behind = at;
     let mut i: usize = 0;
-    while i < FLAG_COUNT {
-        behind = put_flag(out, behind, i, peek::byte_at(flags, i));
+    while i < flags.len() {
+        behind = put_flag(out, behind, i, flags[i]);
         i += 1;
     }
     behind

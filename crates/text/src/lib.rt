@@ -4,6 +4,8 @@
 mod names;
 mod put;
 
+pub use names::ELSE_STATE;
+pub use names::FLAGS;
 pub use names::Form;
 pub use names::field_name;
 pub use names::flag_name;

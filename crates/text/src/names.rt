@@ -106,6 +106,11 @@ pub fn operation_name(code: u8) -> [u8; 8] {
     }
 }
 
+// Where a state's else state and its flags stand in a description, behind the number.
+pub const ELSE_STATE: usize = 4;
+
+pub const FLAGS: usize = 5;
+
 // Flag byte i of a state.
 pub fn flag_name(i: usize) -> [u8; 8] {
     match i {

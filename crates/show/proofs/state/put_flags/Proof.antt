@@ -11,13 +11,13 @@ abbrev Inv-loop : tie.InvT-loop
 Inv-loop out₀ at flags behind₀ i₀ out behind i = length out ≡ length out₀
 
 abbrev μ-loop : tie.MeasureT-loop
-μ-loop out₀ at flags behind₀ i₀ out behind i = 8 - i
+μ-loop out₀ at flags behind₀ i₀ out behind i = length flags - i
 
 loop-holds : tie.Need-loop-holds Inv-loop μ-loop
 loop-holds c = refl
 
-byte-at-requires : tie.Need-byte-at-requires Inv-loop μ-loop
-byte-at-requires c κs = search needs
+shared-slice-read-put-flag : tie.Need-shared-slice-read-put-flag Inv-loop μ-loop
+shared-slice-read-put-flag c = search needs
 
 put-flag-requires : tie.Need-put-flag-requires Inv-loop μ-loop
 put-flag-requires c κs = search needs
@@ -44,7 +44,7 @@ put-flags-spec =
     Inv-loop
     μ-loop
     loop-holds
-    byte-at-requires
+    shared-slice-read-put-flag
     put-flag-requires
     add-i
     loop-less
