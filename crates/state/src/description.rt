@@ -7,6 +7,7 @@ ghost use Rattle.state.specs.Description as description;
 use crate::State;
 use buffer::Outcome;
 use peek::byte_at;
+use peek::u32_at;
 
 const NO_FAULT: u8 = 0;
 
@@ -28,13 +29,30 @@ fn flags_in(bytes: &[u8]) -> [u8; 8]
     ]
 }
 
+// A whole description is asked once whether it is whole.
 fn from_bytes(bytes: &[u8]) -> State
     ensures { λ r. ⌜ r ≡ description.fromBytes (now (bytes .entry)) ⌝ }
 {
+    if bytes.len() < 13 {
+        return State {
+            number: u32_at(bytes, 0),
+            branch: byte_at(bytes, 4),
+            flags: flags_in(bytes),
+        };
+    }
     State {
-        number: peek::u32_at(bytes, 0),
-        branch: byte_at(bytes, 4),
-        flags: flags_in(bytes),
+        number: u32_at(bytes, 0),
+        branch: bytes[4],
+        flags: [
+            bytes[5],
+            bytes[6],
+            bytes[7],
+            bytes[8],
+            bytes[9],
+            bytes[10],
+            bytes[11],
+            bytes[12],
+        ],
     }
 }
 

@@ -181,7 +181,8 @@ fn changed<'a>(section: usize, old: &'a [u8], new: &'a [u8]) -> Verdict<'a> {
         1 => least_telling_range(three(old), three(new)).map(Telling::One),
         2 => telling_edge(three(old), three(new)).map(|(earlier, later)| Telling::Two(earlier, later)),
         3 => return Verdict::Oper,
-        _ => return Verdict::Fields,
+        4 => return Verdict::Fields,
+        _ => unreachable!("no such section"),
     };
     match told {
         Some(shown) => Verdict::Altr { shown, old, new },

@@ -73,10 +73,11 @@ fn send(commands: &mut Commands, section: usize, slot: u32, description: &[u8]) 
             let operations = description.try_into().expect("a sum has eleven operations");
             commands.chain(0x40 + slot / 3 * 4 + slot % 3, &sum_words(operations));
         }
-        _ => {
+        4 => {
             let (number, else_state, flags) = state(description);
             commands.chain(slot, &[state_word(number, else_state, flags)]);
         }
+        _ => unreachable!("no such section"),
     }
 }
 
@@ -230,13 +231,14 @@ fn item(cursor: &mut Cursor, sheet: &mut Growing, section: usize, slot: u8) -> R
             sheet.head(section, slot);
             sheet.numbers(&[rise, fall, neither]);
         }
-        _ => {
+        3 => {
             let mut words = [0; 6];
             cursor.words(&mut words)?;
             let Some(operations) = read_sum(&words) else { return refused(16, start) };
             sheet.head(section, slot);
             sheet.put(&operations);
         }
+        _ => unreachable!("no such section, or states, which have no tables"),
     }
     Ok(())
 }
