@@ -341,6 +341,11 @@ reports() {
         "    Altered: the state's number, else state or flags are others." "    old label 'STOPPED ', new label (no such slot)"; do
         expect "the report has no line '$line'" grep -qxF "$line" page
     done
+    # program/main.c has room for the longest sheet and one byte
+    cp "$root/crates/cli_cases/data/longest.sheet" "$root/crates/cli_cases/data/longer.sheet" .
+    "$voltamar" notice --report old.sheet longest.sheet >page
+    expect 'the report on the longest sheet' grep -qxF "           1571 bytes, SHA-256 $(sha256sum <longest.sheet | head -c 64)" page
+    complains 1 'longer.sheet: refused 11 at 1571: bytes left over; byte 00 hex after the last section\n' notice --report old.sheet longer.sheet
     "$voltamar" notice --report old.sheet old.sheet >page
     expect 'no alteration' grep -q '^No alteration' page
     cat old.sheet >fifo &
