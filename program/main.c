@@ -7,7 +7,7 @@
 #include <sys/wait.h>
 #include <unistd.h>
 
-enum { REPORT_DUE = 3, TROUBLE = 2, SHEET_ROOM = 1219, DIGITS = 64 };
+enum { REPORT_DUE = 3, TROUBLE = 2, SHEET_ROOM = 1572, DIGITS = 64 };
 
 /* crates/voltamar_cli; a slice is a pointer and a length */
 uint8_t voltamar_run(uint8_t *old, size_t old_room, uint8_t *new, size_t new_room, size_t *old_length, size_t *new_length);

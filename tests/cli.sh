@@ -66,11 +66,17 @@ make_files() {
     mkdir folder
     head -c 30 old.sheet >torn
     head -c 5000 /dev/zero >zeros
-    printf '\000\001\000LOWER 0 \000\000\000\000\011\000\000\000\017\000\000\000\000\000' >lower
-    printf '\000\001\000FLOORS  \003\000\000\000\020\000\000\000\000\017\000\000\000\000' >upper
+    printf '\000\001\000LOWER 0 \000\000\000\000\011\000\000\000\017\000\000\000\000\000\000' >lower
+    printf '\000\001\000FLOORS  \003\000\000\000\020\000\000\000\000\017\000\000\000\000\000' >upper
+    printf '\000\000\000\000\001\000LOCKED  \000\000\020\000\000\000\000\000\000\000\000\000\000' >number
+    printf '\000\000\000\000\001\000LOCKED  \377\377\017\000\020\000\000\000\000\000\000\000\000' >else
+    printf '\000\000\000\000\001\000LOCKED  \377\377\017\000\017\002\001\001\001\001\001\001\001' >flag
+    head -c 59 old.sheet >four
     printf '\237\040\000\000\000' >load
     printf '\236\103\000\000\000' >address
     printf '\236\040\000\000' >short
+    printf '\236\020\000\000\000' >between
+    printf '\236\017\000\000\000' >wordless
     head -c 9 /dev/zero | tr '\0' '\377' >noise
     { printf '\236\040\000\000\000'; for _ in 1 2 3 4; do printf '\237\000\000\000\000'; done; } >words
     long=$(head -c 5000 /dev/zero | tr '\0' x)
@@ -100,7 +106,9 @@ sections() {
     tail -c +37 old.sheet | head -c 21 >part
     gives part section old.sheet 1
     gives part section old.sheet 001
-    for number in 3 4 257 99999999999999999999999999; do says '' section old.sheet $number; done
+    tail -c +483 lift.sheet | head -c 88 >part
+    gives part section lift.sheet 4
+    for number in 3 4 5 257 99999999999999999999999999; do says '' section old.sheet $number; done
     complains 2 "two: not a section's number\n" section old.sheet two
     complains 2 "1 : not a section's number\n" section old.sheet '1 '
     complains 2 "-0: not a section's number\n" section -- old.sheet -0
@@ -111,21 +119,28 @@ sections() {
 
 torn='torn: refused 1 at 18: count or record incomplete; terms, record 2: 12 of its 17 bytes are there\n'
 lower="lower: refused 6 at 2: lower bound is 0; ranges, record 1, slot 0 'LOWER 0 ': lower 0, where 1 is the least\n"
+state=": refused 18 at 5: a state's field too big for its place; states, record 1, slot 0 'LOCKED  '"
 refusals() {
     complains 1 'empty: refused 1 at 0: count or record incomplete; terms: the count is missing\n' check empty
     complains 1 "$torn" check torn
     complains 1 "$lower" check lower
     complains 1 "$lower" compile lower
     complains 1 "upper: refused 8 at 2: upper bound too big for the mask's lines; ranges, record 1, slot 0 'FLOORS  ': upper 16, where four masked lines hold at most 15\n" check upper
-    complains 1 'zeros: refused 11 at 4: bytes left over; byte 00 hex after the last section\n' compile zeros
+    complains 1 "number$state: number 1048576, where at most 1048575 fits\n" check number
+    complains 1 "else$state: else state 16, where at most 15 fits\n" compile else
+    complains 1 "flag$state: flag stop1 is 2, where a flag is 0 or 1\n" notice old.sheet flag
+    complains 1 'four: refused 1 at 59: count or record incomplete; states: the count is missing\n' check four
+    complains 1 'zeros: refused 11 at 5: bytes left over; byte 00 hex after the last section\n' compile zeros
     complains 1 "noise: refused 2 at 0: count above the section's most; terms: count 255, where 10 is the most\n" check noise
     complains 1 "short: refused 13 at 0: stream ends inside a command or item; 4 of a command's 5 bytes are there, at the start\n" read short
     complains 1 'load: refused 14 at 0: opcode other than the one due; opcode 9F, where a select (9E) is due, at the start\n' read load
     complains 1 'address: refused 15 at 0: address unknown, not rising, or not the one due; select 43, an address at which no item starts\n' read address
+    complains 1 'between: refused 15 at 0: address unknown, not rising, or not the one due; select 10, an address at which no item starts\n' read between
+    complains 1 "wordless: refused 13 at 5: stream ends inside a command or item; 0 of a command's 5 bytes are there, after select 0F without its word\n" read wordless
     complains 1 'words: refused 16 at 0: words that no accepted description writes; select 20, terms, slot 0\n' read words
     complains 1 "$torn" notice torn lower
     complains 1 "$lower" notice old.sheet lower
-    says '\000\000\000\000' read empty
+    says '\000\000\000\000\000' read empty
     printf '   0  terms: 2\n   1  slot 0 "DOORLOCK" target 00000005 mask 0000000F\n  18  *** refused 1 at 18: count or record incomplete\n' >want.out
     # shellcheck disable=SC2059
     printf "$torn" >want.err
@@ -214,7 +229,7 @@ meanings() {
     sed -n 's/^ *∷ "\(.*\)"$/\1/p' "$root/crates/refusal/specs/Words.antt" | awk '{ print NR, $0 }' >of_text
     sed -n 's/^ *\[VOLTAMAR_.*\] = "\(.*\)",$/\1/p' "$root/include/meaning.c" | sed 1d | awk '{ print NR, $0 }' >of_c
     sed -n 's/^ *\([0-9]*\) => "\(.*\)",$/\1 \2/p' "$root/rust/src/lib.rs" >of_rust
-    [ "$(wc -l <of_text)" -ge 17 ] || wrong 'meanings: not found'
+    [ "$(wc -l <of_text)" -ge 18 ] || wrong 'meanings: not found'
     expect 'include/meaning.c has other words' cmp -s of_text of_c
     expect 'rust/src/lib.rs has other words' cmp -s of_text of_rust
 }
@@ -309,14 +324,28 @@ terminal() {
     status_is 0 'a notice at a terminal' script -qec "$voltamar notice old.sheet new.sheet" /dev/null
 }
 
+lines_are() { # FILE: the lines of the page are those of the notice
+    grep -E '^(TERM|RANG|EDGE|SUMS|STAT) ' page | cmp -s - "$examples/$1" || wrong "the lines of the report are not $1"
+}
 reports() {
     says '' notice --report old.sheet new.sheet -o page
-    for line in 'Old sheet: old.sheet' 'New sheet: new.sheet' "           59 bytes, SHA-256 $(sha256sum <old.sheet | head -c 64)" \
-        "           55 bytes, SHA-256 $(sha256sum <new.sheet | head -c 64)" 'Lines by sort: NAME 1, ALTR 1, WORD 0, OPER 0, NEW 1, GONE 1' \
+    for line in 'Old sheet: old.sheet' 'New sheet: new.sheet' "           60 bytes, SHA-256 $(sha256sum <old.sheet | head -c 64)" \
+        "           56 bytes, SHA-256 $(sha256sum <new.sheet | head -c 64)" 'Lines by sort: NAME 1, ALTR 1, WORD 0, OPER 0, NEW 1, GONE 1' \
         "    old label 'DOORLOCK', new label 'DOORLK  '" "    old label 'FLOORS  ', new label (no such slot)" 'TERM 01 ALTR 00000004'; do
         expect "the report has no line '$line'" grep -qxF "$line" page
     done
-    grep -E '^(TERM|RANG|EDGE|SUMS) ' page | cmp -s - "$examples/old-new.notice" || wrong 'the lines of the report are not those of the notice'
+    lines_are old-new.notice
+    "$voltamar" notice --report lift.sheet lift-revised.sheet >page
+    lines_are lift-revised.notice
+    for line in 'Lines by sort: NAME 3, ALTR 2, WORD 2, OPER 1, NEW 3, GONE 3' "    old label 'MOVING  ', new label 'RIDING  '" \
+        "    Altered: the state's number, else state or flags are others." "    old label 'STOPPED ', new label (no such slot)"; do
+        expect "the report has no line '$line'" grep -qxF "$line" page
+    done
+    # program/main.c has room for the longest sheet and one byte
+    cp "$root/crates/cli_cases/data/longest.sheet" "$root/crates/cli_cases/data/longer.sheet" .
+    "$voltamar" notice --report old.sheet longest.sheet >page
+    expect 'the report on the longest sheet' grep -qxF "           1571 bytes, SHA-256 $(sha256sum <longest.sheet | head -c 64)" page
+    complains 1 'longer.sheet: refused 11 at 1571: bytes left over; byte 00 hex after the last section\n' notice --report old.sheet longer.sheet
     "$voltamar" notice --report old.sheet old.sheet >page
     expect 'no alteration' grep -q '^No alteration' page
     cat old.sheet >fifo &

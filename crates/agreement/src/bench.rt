@@ -40,7 +40,7 @@ pub(crate) fn say_examples(out: i32) {
     say_sheet(
         out,
         b"range 1..FFFFFFFF, mask FFFFFFFF",
-        b"\x00\x01\x00        \x01\x00\x00\x00\xFF\xFF\xFF\xFF\xFF\xFF\xFF\xFF\x00\x00",
+        b"\x00\x01\x00        \x01\x00\x00\x00\xFF\xFF\xFF\xFF\xFF\xFF\xFF\xFF\x00\x00\x00",
     );
     say_stream(out, b"no bytes", b"");
     say_stream(out, b"1 byte", b"\x9E");

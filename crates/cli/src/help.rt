@@ -103,7 +103,7 @@ fn write_more(verb: u8, fd: i32) -> bool {
         ),
         words::SECTION => io::write_all(
             fd,
-            b"Writes the records of one section, without their count: 0 terms, 1 ranges, 2 edges, 3 sums; a greater N gives nothing.\nBytes are not written to a terminal, unless with --force.\n",
+            b"Writes the records of one section, without their count: 0 terms, 1 ranges, 2 edges, 3 sums, 4 states.\nA greater N gives nothing. Bytes are not written to a terminal, unless with --force.\n",
         ),
         words::COMPILE => io::write_all(
             fd,
@@ -116,7 +116,7 @@ fn write_more(verb: u8, fd: i32) -> bool {
         words::NOTICE => write_notice_help(fd),
         words::SHOW => io::write_all(
             fd,
-            b"Shows one record, or with --commands one command, to a line: its offset first, the numbers of a description in hex.\nA refused file is shown up to its fault, which is marked ***.\n",
+            b"Shows one record, or with --commands one command, to a line: its offset first, numbers of four bytes in hex.\nA refused file is shown up to its fault, which is marked ***.\n",
         ),
         _ => io::write_all(fd, b"Says how the program, or one verb of it, is called.\n"),
     }
@@ -125,6 +125,6 @@ fn write_more(verb: u8, fd: i32) -> bool {
 fn write_notice_help(fd: i32) -> bool {
     io::write_all(
         fd,
-        b"Writes a line for each alteration: TERM, RANG, EDGE or SUMS, the slot, and\n  NAME  the label differs\n  ALTR  what is caught differs, and an input in hex that tells the two apart\n  WORD  the description differs, but no input tells the two apart\n  OPER  a sum's operations differ\n  NEW   only the new sheet has the slot\n  GONE  only the old sheet has the slot\nAn empty notice with status 0 says that nothing is altered; a refusal gives no notice and status 1.\n--report: a page for signing, with both files' names, lengths and SHA-256, and what each line says.\n",
+        b"Writes a line for each alteration: TERM, RANG, EDGE, SUMS or STAT, the slot, and\n  NAME  the label differs\n  ALTR  what is caught differs, and an input in hex that tells the two apart;\n        of a state its number, else state or flags differ, and no input follows\n  WORD  the description differs, but no input tells the two apart\n  OPER  a sum's operations differ\n  NEW   only the new sheet has the slot\n  GONE  only the old sheet has the slot\nAn empty notice with status 0 says that nothing is altered; a refusal gives no notice and status 1.\n--report: a page for signing, with both files' names, lengths and SHA-256, and what each line says.\n",
     )
 }

@@ -4,6 +4,7 @@
 mod cursor;
 mod line;
 mod record;
+mod state;
 mod values;
 
 pub use cursor::Cursor;

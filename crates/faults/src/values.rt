@@ -1,4 +1,5 @@
 // The value at fault in a record, beside what it could be.
+use crate::state::put_state;
 use records::description;
 use records::label;
 use records::slot;
@@ -7,7 +8,7 @@ use text::put_decimal;
 use text::put_number;
 use text::put_trimmed;
 
-// The value that a record is refused for: 3 and 5 to 10.
+// The value that a record is refused for: 3, 5 to 10 and 18.
 pub(crate) fn put_value(
     out: &mut [u8],
     at: usize,
@@ -23,6 +24,7 @@ pub(crate) fn put_value(
         8 => put_upper(out, at, description(record)),
         9 => put_events(out, at, description(record)),
         10 => put_operation(out, at, description(record)),
+        18 => put_state(out, at, description(record)),
         _ => at,
     }
 }
@@ -41,7 +43,7 @@ fn put_label_byte(out: &mut [u8], at: usize, label: &[u8]) -> usize {
 }
 
 // The index of the first byte that is not from `low` to `high`.
-fn first_outside(bytes: &[u8], low: u8, high: u8) -> usize {
+pub(crate) fn first_outside(bytes: &[u8], low: u8, high: u8) -> usize {
     let mut i: usize = 0;
     while i < bytes.len() {
         if bytes[i] < low {

@@ -35,6 +35,7 @@ meanings =
     ∷ "address unknown, not rising, or not the one due"
     ∷ "words that no accepted description writes"
     ∷ "wrong word count (the place is the count needed)"
+    ∷ "a state's field too big for its place"
     ∷ []
 
 -- what a number means, as bytes [A12]

@@ -46,6 +46,11 @@ pub(crate) fn is_finding(line: &[u8], finding: &[u8]) -> bool {
     compare::same_bytes(peek::prefix(peek::suffix(line, FINDING), WORD), finding)
 }
 
+// Whether a line ends behind a finding of four letters: no input follows.
+pub(crate) fn is_bare(line: &[u8]) -> bool {
+    line.len() <= FINDING + WORD + 1
+}
+
 // The section that a line speaks of, by its four letters; SECTIONS if none has them.
 pub(crate) fn section_of(line: &[u8]) -> usize {
     let mut section: usize = 0;

@@ -1,6 +1,7 @@
 // The page.
 use crate::labels::put_label;
 use crate::line::count_lines;
+use crate::line::is_bare;
 use crate::line::is_finding;
 use crate::line::line_length;
 use crate::line::section_of;
@@ -82,10 +83,7 @@ fn write_saying(line: &[u8], fd: i32) -> bool {
     if is_finding(line, b"NAME") {
         io::write_all(fd, b"    The label is another one.\n")
     } else if is_finding(line, b"ALTR") {
-        io::write_all(
-            fd,
-            b"    Altered: on the input shown, in hex, one of the two hits and the other does not.\n",
-        )
+        write_altered(is_bare(line), fd)
     } else if is_finding(line, b"WORD") {
         io::write_all(
             fd,
@@ -97,6 +95,21 @@ fn write_saying(line: &[u8], fd: i32) -> bool {
         io::write_all(fd, b"    The slot is in the old sheet only.\n")
     } else {
         io::write_all(fd, b"    The slot is in the new sheet only.\n")
+    }
+}
+
+// Only of a state no input is shown.
+fn write_altered(is_state: bool, fd: i32) -> bool {
+    if is_state {
+        io::write_all(
+            fd,
+            b"    Altered: the state's number, else state or flags are others.\n",
+        )
+    } else {
+        io::write_all(
+            fd,
+            b"    Altered: on the input shown, in hex, one of the two hits and the other does not.\n",
+        )
     }
 }
 
@@ -113,6 +126,6 @@ fn write_ending(fd: i32) -> bool {
 fn write_words(fd: i32) -> bool {
     io::write_all(
         fd,
-        b"\nWhat the words mean, slot by slot (TERM terms, RANG ranges, EDGE edges, SUMS sums):\n  NAME  the label differs; what is caught is not altered by that\n  ALTR  what is caught differs; the input that follows tells the two apart\n        (one sample in hex; for an edge the earlier and the later sample)\n  WORD  the description differs, but no input tells the two apart\n  OPER  a sum's operations differ\n  NEW   a slot that only the new sheet has\n  GONE  a slot that only the old sheet has\nA slot without a line is the same in both sheets, its label too.\n",
+        b"\nWhat the words mean (TERM terms, RANG ranges, EDGE edges, SUMS sums, STAT states):\n  NAME  the label differs; what is caught is not altered by that\n  ALTR  what is caught differs; the input that follows tells the two apart\n        (one sample in hex; for an edge the earlier and the later sample);\n        for a state, where no input follows: its number, else state or flags differ\n  WORD  the description differs, but no input tells the two apart\n  OPER  a sum's operations differ\n  NEW   a slot that only the new sheet has\n  GONE  a slot that only the old sheet has\nA slot without a line is the same in both sheets, its label too.\n",
     )
 }

@@ -3,6 +3,7 @@
 // Rests on: faults (the walk over a sheet), text (words), records (a record's fields), peek, buffer and io.
 mod commands;
 mod sheet;
+mod state;
 
 pub use commands::show_commands;
 pub use sheet::show_sheet;

@@ -1,9 +1,11 @@
 // A sheet as text: the offset, then the count of a section, or a record's slot, label and description.
+use crate::state::put_state;
 use faults::Cursor;
 use records::description;
 use records::label;
 use records::record_size;
 use records::slot;
+use text::Form;
 use text::put_bits;
 use text::put_number;
 use text::put_padded;
@@ -55,17 +57,25 @@ fn put_record(out: &mut [u8], at: usize, section: usize, record: &[u8]) -> usize
     let a = put_number(out, at, b"slot ", slot(record) as usize);
     let b = buffer::put_at(out, a, b" ");
     let c = text::put_quoted(out, b, label(record), b"\"");
-    if text::field_count(section) == 0 {
-        put_operations(out, c, description(record))
-    } else {
-        put_fields(out, c, section, description(record))
+    match text::form_of(section) {
+        Form::Numbers(count) => put_fields(out, c, section, count, description(record)),
+        Form::Operations => put_operations(out, c, description(record)),
+        Form::State => put_state(out, c, description(record)),
+        Form::Nothing => c,
     }
 }
 
-fn put_fields(out: &mut [u8], at: usize, section: usize, description: &[u8]) -> usize {
+// Two numbers or three.
+fn put_fields(
+    out: &mut [u8],
+    at: usize,
+    section: usize,
+    count: usize,
+    description: &[u8],
+) -> usize {
     let a = put_field(out, at, section, 0, peek::u32_at(description, 0));
     let b = put_field(out, a, section, 1, peek::u32_at(description, 4));
-    if text::field_count(section) < 3 {
+    if count < 3 {
         return b;
     }
     put_field(out, b, section, 2, peek::u32_at(description, 8))

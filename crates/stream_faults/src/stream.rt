@@ -116,9 +116,22 @@ fn put_chain(out: &mut [u8], at: usize, chain: Chain) -> usize {
         return buffer::put_at(out, at, b", at the start");
     }
     let a = put_bits(out, at, b", after select ", chain.address, 2);
+    let all = chain_words(section_of(chain.address));
+    if all == 1 {
+        return put_one(out, a, chain.words);
+    }
     let b = put_number(out, a, b" and ", chain.words);
-    let c = put_number(out, b, b" of its ", chain_words(section_of(chain.address)));
+    let c = put_number(out, b, b" of its ", all);
     buffer::put_at(out, c, b" words")
+}
+
+// The word of a chain that has but one: whether it came.
+fn put_one(out: &mut [u8], at: usize, words: usize) -> usize {
+    if words == 0 {
+        buffer::put_at(out, at, b" without its word")
+    } else {
+        buffer::put_at(out, at, b" and its word")
+    }
 }
 
 fn put_address(out: &mut [u8], at: usize, address: u32, chain: Chain) -> usize {

@@ -4,8 +4,12 @@
 mod names;
 mod put;
 
-pub use names::field_count;
+pub use names::ELSE_STATE;
+pub use names::FLAGS;
+pub use names::Form;
 pub use names::field_name;
+pub use names::flag_name;
+pub use names::form_of;
 pub use names::operation_name;
 pub use names::section_name;
 pub use names::stage_name;

@@ -2,6 +2,7 @@
 
 use kinds::EDGES;
 use kinds::RANGES;
+use kinds::STATES;
 use kinds::SUMS;
 use kinds::TERMS;
 
@@ -11,22 +12,35 @@ pub fn section_name(section: usize) -> [u8; 8] {
         RANGES => *b"ranges  ",
         EDGES => *b"edges   ",
         SUMS => *b"sums    ",
+        STATES => *b"states  ",
         _ => *b"sections",
     }
 }
 
-// How many numbers of four bytes a description is made of; none for one that is made of operations.
-pub fn field_count(section: usize) -> usize {
+// What a description is made of.
+pub enum Form {
+    // So many numbers of four bytes.
+    Numbers(usize),
+    // A sum's operations.
+    Operations,
+    // A state's number, else state and flags.
+    State,
+    // Nothing: no sheet has the section.
+    Nothing,
+}
+
+pub fn form_of(section: usize) -> Form {
     match section {
-        TERMS => 2,
-        RANGES => 3,
-        EDGES => 3,
-        SUMS => 0,
-        _ => 0,
+        TERMS => Form::Numbers(2),
+        RANGES => Form::Numbers(3),
+        EDGES => Form::Numbers(3),
+        SUMS => Form::Operations,
+        STATES => Form::State,
+        _ => Form::Nothing,
     }
 }
 
-// Number i of a description.
+// Number i of a description that is made of numbers.
 pub fn field_name(section: usize, i: usize) -> [u8; 8] {
     match section {
         TERMS => term_field(i),
@@ -89,5 +103,24 @@ pub fn operation_name(code: u8) -> [u8; 8] {
         8 => *b"A       ",
         9 => *b"B       ",
         _ => *b"?       ",
+    }
+}
+
+// Where a state's else state and its flags stand in a description, behind the number.
+pub const ELSE_STATE: usize = 4;
+
+pub const FLAGS: usize = 5;
+
+// Flag byte i of a state.
+pub fn flag_name(i: usize) -> [u8; 8] {
+    match i {
+        0 => *b"stop1   ",
+        1 => *b"stop2   ",
+        2 => *b"clear1  ",
+        3 => *b"clear2  ",
+        4 => *b"start1  ",
+        5 => *b"start2  ",
+        6 => *b"trigger ",
+        _ => *b"last    ",
     }
 }
