@@ -1,5 +1,5 @@
 // The value at fault in a record, beside what it could be.
-use crate::state::put_state;
+use crate::fields::put_state;
 use records::description;
 use records::label;
 use records::slot;

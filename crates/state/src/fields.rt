@@ -1,14 +1,10 @@
 // Which states are accepted.
 ghost use mathlib.Core.Path.{_≡_};
 ghost use Rattle.state.specs.Fields.{fits};
+use crate::FLAG_LAST;
+use crate::NUMBER_LAST;
+use crate::STATE_LAST;
 use crate::State;
-
-// The greatest number, else state and flag.
-const NUMBER_LAST: u32 = 0xf_ffff;
-
-const STATE_LAST: u8 = 15;
-
-const FLAG_LAST: u8 = 1;
 
 // Whether each field fits its bits.
 pub(crate) fn fields_fit(s: State) -> bool

@@ -11,6 +11,13 @@ pub use description::fault;
 pub use description::put_back;
 pub use description::put_words;
 
+// The greatest number, else state and flag byte that fit their bits.
+pub const NUMBER_LAST: u32 = 0xf_ffff;
+
+pub const STATE_LAST: u8 = 15;
+
+pub const FLAG_LAST: u8 = 1;
+
 // A description: how often the hit sum must match, the state that the else sum leads to, and a byte for each flag: stop,
 // clear and start of either timer, trigger, last.
 pub struct State {

@@ -1,15 +1,12 @@
 // The field of a state that is too big for its place, beside the most that fits.
 use crate::values::first_outside;
+use state::FLAG_LAST;
+use state::NUMBER_LAST;
+use state::STATE_LAST;
 use text::ELSE_STATE;
 use text::FLAGS;
 use text::put_number;
 use text::put_trimmed;
-
-const NUMBER_LAST: u32 = 0xf_ffff;
-
-const STATE_LAST: u8 = 15;
-
-const FLAG_LAST: u8 = 1;
 
 // The first such field.
 pub(crate) fn put_state(out: &mut [u8], at: usize, description: &[u8]) -> usize {
