@@ -1,7 +1,7 @@
 -- What is promised of states. Assumes nothing.
 use Prim.Native.Nat.{ℕ, _+_, _/_, _%_, _^_, _<_}
-use mathlib.Core.Path.{_≡_, refl, sym, ap, _∙_}
-use mathlib.Core.Bool.{Bool, true, false, cond}
+use mathlib.Core.Path.{_≡_, sym, ap, _∙_}
+use mathlib.Core.Bool.{true, false}
 use mathlib.Core.List.{List, [], _∷_, _++_}
 use mathlib.Core.Logic.{_↔_}
 use native.Mathlib.Omega.{arith}
@@ -10,6 +10,7 @@ use lib.ListN.{length, getD, take, drop, length-drop, take-append-drop}
 use lib.Seq.{take-all}
 use Rattle.lines.specs.Line.{line}
 use Rattle.lut.specs.Back.{Written}
+use Rattle.lut.proofs.Numbers.{ok-iff-written}
 use Rattle.peek.specs.Bytes.{Bytes, bytesFrom}
 use Rattle.peek.proofs.FieldLaws.{bytes-taken}
 use Rattle.peek.proofs.Numbers.{u32-read, u32-written}
@@ -27,13 +28,7 @@ words-read-back = back.read-written
 
 -- words are refused unless an accepted state writes them [C5, F16, D2.6]
 pub accepted-iff-written : (words : List ℕ) → (readState words .ok ≡ false → ⊥) ↔ Written Accepted wordsOf words
-accepted-iff-written ws =
-    let numbered = back.read-numbered ws (readState ws) (back.read-means ws) in
-    (λ n. numbered .read .0 (unrefused (readState ws .ok) n), λ w e. numbered .refused .0 (ap (λ (ok : Bool). cond {A = ℕ} ok 0 16) e) w)
-  where
-    unrefused : (ok : Bool) → (ok ≡ false → ⊥) → _≡_ {A = ℕ} (cond ok 0 16) 0
-    unrefused true n = refl
-    unrefused false n = absurd (n refl)
+accepted-iff-written ws = ok-iff-written Accepted wordsOf ws (readState ws .ok) (back.read-numbered ws (readState ws) (back.read-means ws))
 
 -- every word of 32 bits is some accepted state's, so a word is never refused [C6, W19]
 pub every-word-is-some-states : (w : ℕ) → w < 2 ^ 32 → Written Accepted wordsOf (w ∷ [])

@@ -1,11 +1,12 @@
 -- What is promised of sums. Assumes nothing.
 use Prim.Native.Nat.{ℕ, _≤_}
-use mathlib.Core.Path.{_≡_, refl, ap}
-use mathlib.Core.Bool.{Bool, true, false, cond}
+use mathlib.Core.Path.{_≡_, refl}
+use mathlib.Core.Bool.{true, false}
 use mathlib.Core.List.{List}
 use mathlib.Core.Logic.{_↔_}
 use Rattle.lut.specs.Answer.{hitOrMiss}
 use Rattle.lut.specs.Back.{Written}
+use Rattle.lut.proofs.Numbers.{ok-iff-written}
 use Rattle.lut.proofs.Runs.{run-needed}
 use Rattle.sum.specs.Operation.{pairOps, midOps, finalOps, opWord, Accepted}
 use Rattle.sum.specs.Meaning.{sumMeans}
@@ -38,10 +39,4 @@ words-read-back ops a = back.read-written (wordsOf ops) ops (record { eleven = a
 
 -- words are refused unless an accepted sum writes them [C5, F16, D2.6]
 pub accepted-iff-written : (words : List ℕ) → (readSum words .ok ≡ false → ⊥) ↔ Written Accepted wordsOf words
-accepted-iff-written ws =
-    let numbered = back.read-numbered ws (readSum ws) (back.read-means ws) in
-    (λ n. numbered .read .0 (unrefused (readSum ws .ok) n), λ w e. numbered .refused .0 (ap (λ (ok : Bool). cond {A = ℕ} ok 0 16) e) w)
-  where
-    unrefused : (ok : Bool) → (ok ≡ false → ⊥) → _≡_ {A = ℕ} (cond ok 0 16) 0
-    unrefused true n = refl
-    unrefused false n = absurd (n refl)
+accepted-iff-written ws = ok-iff-written Accepted wordsOf ws (readSum ws .ok) (back.read-numbered ws (readSum ws) (back.read-means ws))
