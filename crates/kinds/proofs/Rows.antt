@@ -9,7 +9,7 @@ use native.Mathlib.Decide.{decLt}
 use native.Mathlib.Omega.{arith}
 use lib.Dec.{T, eqb, leb, eqb→eq, leb→le}
 use lib.ListN.{length, getD, List·getD-eq-default}
-use Rattle.kinds.specs.Table.{Kind, kinds, noKind, sections, kindOf, mostOf, descriptionSize, chainCount, chainLength}
+use Rattle.kinds.specs.Table.{Kind, kinds, noKind, sections, kindOf, letterOf, mostOf, descriptionSize, chainCount, chainLength}
 
 abbrev pub Each : (P : Kind → Type 0) → List Kind → Type 0
 Each P [] = Unit
@@ -58,8 +58,8 @@ at-most f n t k = leb→le (f (kindOf k)) n (passes (λ x. leb (f x) n) t k)
 pub always : (f : Kind → ℕ) (n : ℕ) → T (every (λ x. eqb (f x) n) (noKind ∷ kinds)) → (k : ℕ) → f (kindOf k) ≡ n
 always f n t k = eqb→eq (f (kindOf k)) n (passes (λ x. eqb (f x) n) t k)
 
-pub at-least-one : (f : Kind → ℕ) → T (every (λ x. leb 1 (f x)) kinds) → (k : ℕ) → k < sections → 1 ≤ f (kindOf k)
-at-least-one f t k h = leb→le 1 (f (kindOf k)) (of-kind (λ x. T (leb 1 (f x))) (each-passes (λ x. leb 1 (f x)) kinds t) k h)
+pub at-least : (f : Kind → ℕ) (n : ℕ) → T (every (λ x. leb n (f x)) kinds) → (k : ℕ) → k < sections → n ≤ f (kindOf k)
+at-least f n t k h = leb→le n (f (kindOf k)) (of-kind (λ x. T (leb n (f x))) (each-passes (λ x. leb n (f x)) kinds t) k h)
 
 -- every number is small, with room for more
 pub most-byte : (k : ℕ) → mostOf k ≤ 255
@@ -81,8 +81,13 @@ chain-short = at-most (λ x. x .each) 32 tt
 -- every section may have a record, and a record a description
 pub most-positive : (k : ℕ) → k < sections → 0 < mostOf k
 unfolding mostOf
-most-positive = at-least-one (λ x. x .most) tt
+most-positive = at-least (λ x. x .most) 1 tt
 
 pub size-positive : (k : ℕ) → k < sections → 0 < descriptionSize k
 unfolding descriptionSize
-size-positive = at-least-one (λ x. x .size) tt
+size-positive = at-least (λ x. x .size) 1 tt
+
+-- a section's letter may stand in a label
+pub letter-plain : (k : ℕ) → k < sections → (0x20 ≤ letterOf k) × (letterOf k ≤ 0x7E)
+unfolding letterOf
+letter-plain k h = (at-least (λ x. x .letter) 0x20 tt k h, at-most (λ x. x .letter) 0x7E tt k)

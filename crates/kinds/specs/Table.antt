@@ -29,8 +29,9 @@ use Rattle.kinds.specs.Change.{told}
 
 -- what each kind has, a row of the table of sections [S13]
 pub record Kind : Type 0 where
-  -- the four letters of the notice
+  -- the four letters of the notice, and the one of the labels that the reader gives
   pub name : List ℕ
+  pub letter : ℕ
   -- the most records, and the bytes of a description
   pub most : ℕ
   pub size : ℕ
@@ -68,11 +69,12 @@ SUMS = 3
 abbrev pub STATES : ℕ
 STATES = 4
 
--- terms: TERM, at most 10, address 0x20 + slot, one chain of four words [S1, W4, N3, G3]
+-- terms: TERM and T, at most 10, address 0x20 + slot, one chain of four words [S1, W4, N3, G3]
 abbrev pub termKind : Kind
 termKind =
     record {
       name = 84 ∷ 69 ∷ 82 ∷ 77 ∷ [];
+      letter = 84;
       most = 10;
       size = term.size;
       fault = term.fault;
@@ -86,11 +88,12 @@ termKind =
       change = λ old new. told (term.telling old new);
     }
 
--- ranges: RANG, at most 2, address 0x30 + 2 * slot, two chains of sixteen words [S1, W6, N3]
+-- ranges: RANG and R, at most 2, address 0x30 + 2 * slot, two chains of sixteen words [S1, W6, N3]
 abbrev pub rangeKind : Kind
 rangeKind =
     record {
       name = 82 ∷ 65 ∷ 78 ∷ 71 ∷ [];
+      letter = 82;
       most = 2;
       size = range.size;
       fault = range.fault;
@@ -104,11 +107,12 @@ rangeKind =
       change = λ old new. told (range-telling.telling old new);
     }
 
--- edges: EDGE, at most 2, address 0x34 + slot, one chain of eight words [S1, W11, N3]
+-- edges: EDGE and E, at most 2, address 0x34 + slot, one chain of eight words [S1, W11, N3]
 abbrev pub edgeKind : Kind
 edgeKind =
     record {
       name = 69 ∷ 68 ∷ 71 ∷ 69 ∷ [];
+      letter = 69;
       most = 2;
       size = edge.size;
       fault = edge.fault;
@@ -122,11 +126,12 @@ edgeKind =
       change = λ old new. told (edge.telling old new);
     }
 
--- sums: SUMS, at most 48, one chain of six words; their change is always OPER [S1, W14, N3, N6]
+-- sums: SUMS and S, at most 48, one chain of six words; their change is always OPER [S1, W14, N3, N6]
 abbrev pub sumKind : Kind
 sumKind =
     record {
       name = 83 ∷ 85 ∷ 77 ∷ 83 ∷ [];
+      letter = 83;
       most = 48;
       size = sum.size;
       fault = sum.fault;
@@ -140,12 +145,13 @@ sumKind =
       change = λ old new. Oper;
     }
 
--- states: STAT, at most 16, address the slot, one chain of one word; their change is ALTR without an input
+-- states: STAT and Q, at most 16, address the slot, one chain of one word; their change is ALTR without an input
 -- [S1, W19, N3, N6, N8]
 abbrev pub stateKind : Kind
 stateKind =
     record {
       name = 83 ∷ 84 ∷ 65 ∷ 84 ∷ [];
+      letter = 81;
       most = 16;
       size = state.size;
       fault = state.fault;
@@ -164,6 +170,7 @@ abbrev pub noKind : Kind
 noKind =
     record {
       name = 0 ∷ 0 ∷ 0 ∷ 0 ∷ [];
+      letter = 0;
       most = 0;
       size = 0;
       fault = λ d. 0;
@@ -194,6 +201,10 @@ kindOf k = getD kinds k noKind
 -- the four letters of section k's name in the notice [N3]
 unfoldable pub nameOf : ℕ → List ℕ
 nameOf k = kindOf k .name
+
+-- the letter of the labels that the reader gives in section k [C7]
+unfoldable pub letterOf : ℕ → ℕ
+letterOf k = kindOf k .letter
 
 -- the most records of section k [S1]
 unfoldable pub mostOf : ℕ → ℕ
@@ -254,7 +265,7 @@ Accepted (suc (suc (suc (suc (suc k))))) d = ⊥
 
 -- the numbers of section k, side by side [S13]
 abbrev pub rowOf : ℕ → Row
-rowOf k = record { name = nameOf k; most = mostOf k; size = descriptionSize k; chains = chainCount k; each = chainLength k }
+rowOf k = record { name = nameOf k; letter = letterOf k; most = mostOf k; size = descriptionSize k; chains = chainCount k; each = chainLength k }
 
 -- how many words each chain of section k's items has [W4, W6, W11, W14, W19]
 unfoldable pub lengthsOf : (k : ℕ) → List ℕ

@@ -1,6 +1,6 @@
 // The numbers of each section: zeros for one that no sheet has.
 ghost use mathlib.Core.Path.{_≡_};
-ghost use Rattle.kinds.specs.Table.{rowOf, chainCount, chainLength, addressOf};
+ghost use Rattle.kinds.specs.Table.{rowOf, letterOf, chainCount, chainLength, addressOf};
 use crate::EDGES;
 use crate::RANGES;
 use crate::Row;
@@ -10,6 +10,7 @@ use crate::TERMS;
 
 const TERM: Row = Row {
     name: *b"TERM",
+    letter: b'T',
     most: 10,
     size: 8,
     chains: 1,
@@ -18,6 +19,7 @@ const TERM: Row = Row {
 
 const RANGE: Row = Row {
     name: *b"RANG",
+    letter: b'R',
     most: 2,
     size: 12,
     chains: 2,
@@ -26,6 +28,7 @@ const RANGE: Row = Row {
 
 const EDGE: Row = Row {
     name: *b"EDGE",
+    letter: b'E',
     most: 2,
     size: 12,
     chains: 1,
@@ -34,6 +37,7 @@ const EDGE: Row = Row {
 
 const SUM: Row = Row {
     name: *b"SUMS",
+    letter: b'S',
     most: 48,
     size: 11,
     chains: 1,
@@ -42,6 +46,7 @@ const SUM: Row = Row {
 
 const STATE: Row = Row {
     name: *b"STAT",
+    letter: b'Q',
     most: 16,
     size: 13,
     chains: 1,
@@ -50,6 +55,7 @@ const STATE: Row = Row {
 
 const NONE: Row = Row {
     name: [0; 4],
+    letter: 0,
     most: 0,
     size: 0,
     chains: 0,
@@ -67,6 +73,14 @@ pub fn row_of(section: usize) -> Row
         STATES => STATE,
         _ => NONE,
     }
+}
+
+// The letter of the labels that the reader gives.
+pub fn letter(section: usize) -> u8
+    ensures { λ r. ⌜ r ≡ letterOf section ⌝ }
+{
+    let row = row_of(section);
+    row.letter
 }
 
 // How many chains an item has, at neighbouring addresses.

@@ -13,6 +13,7 @@ pub use describe::put_words;
 pub use layout::address;
 pub use layout::chain_count;
 pub use layout::chain_length;
+pub use layout::letter;
 pub use layout::row_of;
 
 // The sections by number.
@@ -36,8 +37,9 @@ pub const MOST_WORDS: usize = 32;
 
 // The numbers of a section.
 pub struct Row {
-    // The four letters of the notice.
+    // The four letters of the notice, and the one of the labels that the reader gives.
     pub name: [u8; 4],
+    pub letter: u8,
     // The most records; slots are below this.
     pub most: usize,
     // How many bytes a description has.

@@ -6,6 +6,7 @@ use lib.Dec.{ltb}
 use Rattle.lut.specs.declared.Input.{Input}
 use Rattle.lut.specs.declared.Input.the-variants.{Nothing, Sample, Samples, Sources}
 use Rattle.kinds.specs.Table.{nameOf}
+use Rattle.records.specs.Sections.{slotDigits}
 use Rattle.kinds.specs.declared.Change.{Change}
 use Rattle.kinds.specs.declared.Change.the-variants.{Oper, Word, Altr}
 use Rattle.notice.specs.declared.Finding.{Finding}
@@ -27,7 +28,7 @@ numberText n x = 32 ∷ hex n x
 
 -- the slot in two decimal digits between two spaces [N3]
 abbrev pub slotText : ℕ → List ℕ
-slotText s = 32 ∷ (48 + s / 10) ∷ (48 + s % 10) ∷ 32 ∷ []
+slotText s = 32 ∷ (slotDigits s ++ (32 ∷ []))
 
 -- what ALTR shows: samples in eight hex digits, the earlier first; nothing for a state; sources never, since sums have
 -- OPER [N8, G8]

@@ -61,10 +61,11 @@ fn put_number(out: &mut [u8], at: usize, digits: usize, x: u32) -> usize
 }
 
 // The slot in two decimal digits, between spaces.
-fn slot_digits(slot: u8) -> [u8; 4]
+fn slot_text(slot: u8) -> [u8; 4]
     ensures { λ r. ⌜ r ≡ slotText slot ⌝ }
 {
-    [b' ', 48 + slot / 10, 48 + slot % 10, b' ']
+    let digits = slot_digits(slot);
+    [b' ', digits[0], digits[1], b' ']
 }
 
 // The input that tells two descriptions apart.

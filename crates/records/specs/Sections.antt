@@ -1,8 +1,8 @@
 -- The records of the sections. What one section has and another has not is the table of kinds; every size and offset
 -- follows from it.
-use Prim.Native.Nat.{ℕ, _+_, _*_}
+use Prim.Native.Nat.{ℕ, _+_, _*_, _/_, _%_}
 use mathlib.Core.Bool.{Bool, cond}
-use mathlib.Core.List.{List}
+use mathlib.Core.List.{List, [], _∷_}
 use lib.ListN.{getD, take, drop, replicate}
 use Rattle.buffer.specs.Room.{fill}
 use Rattle.records.specs.declared.Sum.{Sum}
@@ -30,6 +30,10 @@ sectionSize k count = 1 + count * recordSize k
 -- a record's slot, its first byte [S2]
 abbrev pub slotOf : List ℕ → ℕ
 slotOf r = getD r 0 0
+
+-- a slot in two decimal digits: '0' is 48 [N3, C7]
+abbrev pub slotDigits : ℕ → List ℕ
+slotDigits slot = (48 + slot / 10) ∷ (48 + slot % 10) ∷ []
 
 -- a record's label, the eight bytes behind the slot [S2]
 abbrev pub labelOf : List ℕ → List ℕ

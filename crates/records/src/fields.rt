@@ -1,6 +1,6 @@
 // The fields of a record. What lies past the record's end counts as nothing, and in a number as 0.
 ghost use mathlib.Core.Path.{_≡_};
-ghost use Rattle.records.specs.Sections.{slotOf, labelOf, descriptionOf, sumOf};
+ghost use Rattle.records.specs.Sections.{slotOf, slotDigits, labelOf, descriptionOf, sumOf};
 use crate::LABEL_SIZE;
 use crate::OPERATIONS;
 use crate::Sum;
@@ -9,6 +9,13 @@ pub fn slot(bytes: &[u8]) -> u8
     ensures { λ r. ⌜ r ≡ slotOf (now (bytes .entry)) ⌝ }
 {
     peek::byte_at(bytes, 0)
+}
+
+// A slot as people read it, in two decimal digits. No section has a hundred slots.
+pub fn slot_digits(slot: u8) -> [u8; 2]
+    ensures { λ r. ⌜ r ≡ slotDigits slot ⌝ }
+{
+    [b'0' + slot / 10, b'0' + slot % 10]
 }
 
 pub fn label<'a>(bytes: &'a [u8]) -> &'a [u8]

@@ -8,6 +8,7 @@ mod part;
 pub use fields::description;
 pub use fields::label;
 pub use fields::slot;
+pub use fields::slot_digits;
 pub use fields::sum_record;
 pub use layout::most;
 pub use layout::record_size;
