@@ -552,7 +552,7 @@ static void set_label(uint8_t *label, uint8_t byte, int record)
     label[place] = (uint8_t)(byte == 0x7E ? byte - change : byte + change);
 }
 
-/* Every slot taken, every label about the given byte, the same ones in each section; the masks all of the given value. */
+/* Every slot taken, every label about the given byte, the same in each section; the masks all of the given value. */
 static void full_case(uint8_t label, uint32_t mask)
 {
     struct setup s = nothing;
@@ -621,7 +621,7 @@ static void two_labels(const char *first, const char *second)
     write_case(&s);
 }
 
-/* Labels that differ in one byte alone, each of the eight in turn; in their padding alone; a blank one, first and last. */
+/* Labels that differ in one byte alone, each of the eight in turn; in their padding; a blank one, first and last. */
 static void label_cases(void)
 {
     for (int place = 0; place < 8; place++) {

@@ -155,6 +155,9 @@ static void labels(void) {
     memcpy(sheet + 138, sheet + 2, 8);
     clear();
     expect(voltamar_check(sheet, lift_length, &place) == 19 && place == 137, "labels: not only the record before");
+    sheet[137] = 7;
+    expect(voltamar_check(sheet, lift_length, &place) == 4 && place == 137, "labels: 4 comes before 19");
+    sheet[137] = 9;
     expect(voltamar_section(sheet, lift_length, 1, &place, &length) == 19 && place == 0 && length == 0, "labels: section");
     expect(voltamar_compile(sheet, lift_length, out, SPACE, &place) == 19 && place == 137, "labels: compile");
     expect(voltamar_notice(lift, lift_length, sheet, lift_length, out, SPACE, &which, &place) == 19 && which == 2 && place == 137,
@@ -164,6 +167,11 @@ static void labels(void) {
     memcpy(sheet, lift, SPACE);
     memcpy(sheet + 156, sheet + 2, 8);
     expect(voltamar_check(sheet, lift_length, &place) == 0 && place == 0, "labels: of another section");
+    /* the states begin at 482: the last one gets the second one's label, and a flag that is 2 */
+    sheet[569] = 2;
+    expect(voltamar_check(sheet, lift_length, &place) == 18 && place == 548, "labels: another label, 18");
+    memcpy(sheet + 549, sheet + 505, 8);
+    expect(voltamar_check(sheet, lift_length, &place) == 19 && place == 548, "labels: 19 comes before 18");
 }
 
 static void notices(void) {

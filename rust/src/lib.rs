@@ -173,8 +173,8 @@ pub fn compile(sheet: &[u8], out: &mut [u8]) -> Result<usize, Refusal> {
     answer(number, place, place)
 }
 
-/// Writes the sheet that a command stream sets up to the start of `out` and answers its length. Targets are cut to their
-/// masks. A label is the letter of its section (T, R, E, S, Q), the slot in two digits, and five spaces.
+/// Writes the sheet that a command stream sets up to the start of `out` and answers its length. Targets are cut to
+/// their masks. A label is the letter of its section (T, R, E, S, Q), the slot in two digits, and five spaces.
 ///
 /// ```
 /// let mut out = [0; voltamar::LONGEST_SHEET];
