@@ -2,19 +2,26 @@
 use native.Mathlib.Nat.{add-comm, suc-mul, zero-mul, add-zero, sub-zero}
 use native.Mathlib.Numerals.{add-one}
 use native.Mathlib.Omega.{arith}
-use Prim.Native.Nat.{ℕ, suc, _+_, _-_, _*_, _≤_, _<_}
+use borrow.Author.Tests.{eqb-false}
+use Prim.Native.Nat.{ℕ, _+_, _-_, _*_, _≤_, _<_}
 use mathlib.Core.Bool.{Bool, _||_}
 use mathlib.Core.List.{List, [], _∷_, map}
 use mathlib.Core.Path.{_≡_, refl, sym, ap, ap₂, _∙_}
-use lib.ListN.{length, take, drop}
+use lib.Dec.{eqb}
+use lib.ListN.{length, take, drop, length-take, length-drop}
 use lib.Seq.{drop-drop}
 use Rattle.buffer.specs.declared.Verdict.the-variants.{Accepted, Refused}
 use Rattle.compare.specs.Same.{same}
 use Rattle.records.specs.Sections.{recordSize, slotOf, labelOf}
 use Rattle.records.specs.Records.{recordsFrom}
-use Rattle.sheet.specs.Reading.{among, leastSlot, recordFault, nextRecord, recordsVerdict}
+use Rattle.sheet.specs.Reading.{among, leastSlot, recordFault, nextRecord, recordsVerdict, FirstMet}
+use Rattle.sheet.proofs.Faults.{record-short}
 use Rattle.sheet.proofs.Labels.{among-more}
-use Rattle.sheet.proofs.Reading.{records-end, records-refuse, records-next, next-fits}
+use Rattle.sheet.proofs.Reading.{next-faultless, records-end, records-refuse, records-next, next-fits}
+
+-- the next record, as the loop cuts it out
+pub sliced : (k at size : ℕ) (s : List ℕ) → size ≡ recordSize k → take (at + size - at) (drop at s) ≡ nextRecord k (drop at s)
+sliced k at size s e = let n : at + size - at ≡ recordSize k = omega (arith, e) in ap (λ (n : ℕ). take n (drop at s)) n
 
 -- `done` of `count` records of section k lie behind the cursor `at`; the next slot has to be at least `floor`
 pub record Behind (k count start : ℕ) (s : List ℕ) (at floor done : ℕ) : Type 0 where
@@ -41,9 +48,13 @@ module _ (k count start : ℕ) (s : List ℕ) where
       }
 
   module _ (at floor done : ℕ) (b : Behind k count start s at floor done) where
-    -- the records behind the cursor are there
-    pub behind-fits : start + done * recordSize k ≤ length s
-    behind-fits = omega (arith, b .here, b .fits)
+    -- whether an earlier record has the next one's label, by the first of which that holds
+    pub behind-met : (r : ℕ) → FirstMet k start count s r → done ≤ r → done < count → at + recordSize k ≤ length s
+        → among (labelOf (nextRecord k (drop at s))) (map labelOf (b .before)) ≡ eqb done r
+    behind-met r first l h fits =
+        b .labels (labelOf (nextRecord k (drop at s)))
+        ∙ ap (λ (n : ℕ). among (labelOf (take (recordSize k) (drop n s))) (map labelOf (recordsFrom k done (drop start s)))) (b .here)
+        ∙ first done l h (omega (arith, b .here, fits, suc-mul done (recordSize k), ap (λ (n : ℕ). n * recordSize k) (add-one done)))
 
     pub behind-end : count ≤ done → recordsVerdict k count [] start (drop start s) ≡ Accepted
     behind-end h =
@@ -55,9 +66,23 @@ module _ (k count start : ℕ) (s : List ℕ) where
           → recordsVerdict k count [] start (drop start s) ≡ Refused (recordFault k (b .before) (nextRecord k (drop at s))) at
       behind-refuse n = b .left ∙ records-refuse k (b .before) at s (count - done) (omega arith) n
 
+      pub behind-short : length s < at + recordSize k → recordsVerdict k count [] start (drop start s) ≡ Refused 1 at
+      behind-short l =
+          let one = record-short k (b .before) (nextRecord k (drop at s)) (omega (arith, length-take (recordSize k) (drop at s), length-drop at s)) in
+          behind-refuse (λ z. let q : 1 ≡ 0 = sym one ∙ z in absurd (omega arith)) ∙ ap (λ (n : ℕ). Refused n at) one
+
       module _ (ok : recordFault k (b .before) (nextRecord k (drop at s)) ≡ 0) where
         pub next-there : at + recordSize k ≤ length s
         next-there = next-fits k (b .before) at s ok
+
+        -- it has a label of its own, so the first that has not comes later
+        pub behind-below : (r : ℕ) → FirstMet k start count s r → done ≤ r → done + 1 ≤ r
+        behind-below r first l =
+            let n = eqb-false done r (sym (behind-met r first l h next-there) ∙ next-faultless k (b .before) (drop at s) ok .1) in
+            below n
+          where
+            below : (done ≡ r → ⊥) → done + 1 ≤ r
+            below n = omega arith
 
         -- the next record, by its number
         numbered : nextRecord k (drop at s) ≡ take (recordSize k) (drop (done * recordSize k) (drop start s))

@@ -2,28 +2,15 @@
 use borrow.Author.Tests.{lt-ltb, le-ltb, le-leb, lt-leb, ltb-false, leb-false, not-false}
 use native.Mathlib.Omega.{arith}
 use Prim.Native.Nat.{ℕ, _≤_, _<_}
-use mathlib.Core.Bool.{Bool, true, false, cond, not}
+use mathlib.Core.Bool.{Bool, true, false, not}
 use mathlib.Core.List.{List, map}
 use mathlib.Core.Path.{_≡_, refl, _∙_}
-use lib.Dec.{eqb, ltb, leb}
+use lib.Dec.{ltb, leb}
 use lib.ListN.{length}
 use Rattle.compare.specs.Within.{allWithin}
 use Rattle.records.specs.Sections.{faultIf, mostOf, descriptionFault, recordSize, slotOf, labelOf, descriptionOf}
 use Rattle.sheet.specs.Reading.{among, leastSlot, recordFault}
 use Rattle.sheet.specs.Parsed.{Faultless}
-
--- the first of two faults that is one
-abbrev pub firstFault : ℕ → ℕ → ℕ
-firstFault first second = cond (eqb first 0) second first
-
--- a label's fault, where `taken` says whether an earlier record has it
-abbrev pub labelFault : (l : List ℕ) (taken : Bool) → ℕ
-labelFault l taken = faultIf (not (allWithin 0x20 0x7E l)) 5 (faultIf taken 19 0)
-
-label-first : (w taken : Bool) (later : ℕ) → faultIf (not w) 5 (faultIf taken 19 later) ≡ firstFault (faultIf (not w) 5 (faultIf taken 19 0)) later
-label-first true true later = refl
-label-first true false later = refl
-label-first false taken later = refl
 
 module _ (k : ℕ) (before : List (List ℕ)) (r : List ℕ) where
   pub record-short : length r < recordSize k → recordFault k before r ≡ 1
@@ -41,13 +28,9 @@ module _ (k : ℕ) (before : List (List ℕ)) (r : List ℕ) where
       record-order h = simp (le-ltb (length r) (recordSize k) whole, lt-leb (mostOf k) (slotOf r) fit, lt-ltb (slotOf r) (leastSlot before) h)
 
       module _ (rising : leastSlot before ≤ slotOf r) where
-        -- the label's fault before the description's
-        pub record-rest : recordFault k before r
-            ≡ firstFault (labelFault (labelOf r) (among (labelOf r) (map labelOf before))) (descriptionFault k (descriptionOf r))
+        pub record-label : allWithin 0x20 0x7E (labelOf r) ≡ false → recordFault k before r ≡ 5
         unfolding recordFault
-        record-rest =
-            simp (le-ltb (length r) (recordSize k) whole, lt-leb (mostOf k) (slotOf r) fit, le-ltb (slotOf r) (leastSlot before) rising)
-            (label-first (allWithin 0x20 0x7E (labelOf r)) (among (labelOf r) (map labelOf before)) (descriptionFault k (descriptionOf r)))
+        record-label e = simp (le-ltb (length r) (recordSize k) whole, lt-leb (mostOf k) (slotOf r) fit, le-ltb (slotOf r) (leastSlot before) rising, e)
 
         pub record-taken : allWithin 0x20 0x7E (labelOf r) ≡ true → among (labelOf r) (map labelOf before) ≡ true → recordFault k before r ≡ 19
         unfolding recordFault

@@ -81,6 +81,21 @@ differ-behind before (r ∷ rs) d apart =
 pub differ-fresh : (rs : List (List ℕ)) → LabelsDiffer rs → Fresh [] rs
 differ-fresh rs d = differ-behind [] rs d (λ j h i l. absurd (omega arith))
 
+-- ---- records by their numbers
+
+pub records-length : (k n : ℕ) (rest : List ℕ) → length (recordsFrom k n rest) ≡ n
+unfolding recordsFrom
+records-length k zero rest = refl
+records-length k (suc n) rest = ap suc (records-length k n (drop (recordSize k) rest))
+
+pub record-at : (k n : ℕ) (rest : List ℕ) (i : ℕ) → i < n → getD (recordsFrom k n rest) i [] ≡ take (recordSize k) (drop (i * recordSize k) rest)
+unfolding recordsFrom
+record-at k zero rest i h = absurd (omega arith)
+record-at k (suc n) rest zero h = rw (zero-mul (recordSize k))
+record-at k (suc n) rest (suc i) h =
+    record-at k n (drop (recordSize k) rest) i (omega arith)
+    ∙ ap (take (recordSize k)) (drop-drop (i * recordSize k) (recordSize k) rest ∙ ap (λ (m : ℕ). drop m rest) (add-comm (recordSize k) (i * recordSize k) ∙ sym (suc-mul i (recordSize k))))
+
 -- ---- the walk over the earlier records
 
 -- one record more
@@ -108,6 +123,10 @@ pub first-size : (n size : ℕ) → 0 < n → n * size ≡ size + (n - 1) * size
 first-size zero size h = absurd (omega arith)
 first-size (suc n) size h = let p : suc n - 1 ≡ n = omega arith in rw (p, suc-mul n size) (add-comm (n * size) size)
 
+-- a record's label is that of what begins with it
+pub label-cut : (k : ℕ) (rest : List ℕ) → labelOf (take (recordSize k) rest) ≡ take labelSize (drop 1 rest)
+label-cut k rest = rw (drop-take 1 (recordSize k) rest) (take-take labelSize (recordSize k - 1) (drop 1 rest) (omega arith))
+
 -- the label of the record at an offset, and those behind it
 pub among-first : (label : List ℕ) (k at n : ℕ) (s : List ℕ) → 0 < n
     → among label (map labelOf (recordsFrom k n (drop at s)))
@@ -117,10 +136,6 @@ among-first label k at zero s h = absurd (omega arith)
 among-first label k at (suc n) s h =
     let p : suc n - 1 ≡ n = omega arith in
     rw (p, label-cut k (drop at s), drop-drop 1 at s, drop-drop (recordSize k) at s)
-  where
-    -- a record's label is that of what begins with it
-    label-cut : (k : ℕ) (rest : List ℕ) → labelOf (take (recordSize k) rest) ≡ take labelSize (drop 1 rest)
-    label-cut k rest = rw (drop-take 1 (recordSize k) rest) (take-take labelSize (recordSize k - 1) (drop 1 rest) (omega arith))
 
 pub among-end : (label : List ℕ) (k : ℕ) (rest : List ℕ) → among label (map labelOf (recordsFrom k 0 rest)) ≡ false
 unfolding among recordsFrom

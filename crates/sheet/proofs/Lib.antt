@@ -1,5 +1,6 @@
 pub mod Faults
 pub mod Labels
+pub mod Marks
 pub mod Reading
 pub mod Behind
 pub mod Spanning

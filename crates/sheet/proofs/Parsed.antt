@@ -18,7 +18,7 @@ use Rattle.sheet.specs.Reading.{leastSlot, recordFault, nextRecord, reco
 use Rattle.records.specs.Records.{recordsFrom}
 use Rattle.sheet.specs.Parsed.{joined, render, Ordered, Sections, WellFormed, sectionsFrom, parse}
 use Rattle.sheet.proofs.Faults.{no-fault}
-use Rattle.sheet.proofs.Labels.{Fresh, fresh-differ, differ-fresh}
+use Rattle.sheet.proofs.Labels.{Fresh, fresh-differ, differ-fresh, records-length}
 use Rattle.sheet.proofs.Reading.{then-next, next-faultless, counted, records-accepted, count-fits}
 
 -- ---- records
@@ -50,11 +50,6 @@ unfolding joined recordsFrom
 ordered-read Ordered.done rest = refl
 ordered-read {k} {floor} (Ordered.next {r = r} {rs = rs} f o) rest =
     rw (append-assoc r (joined rs) rest, take-at r (joined rs ++ rest) (recordSize k) (f .whole), drop-at r (joined rs ++ rest) (recordSize k) (f .whole), ordered-read o rest)
-
-pub records-length : (k n : ℕ) (rest : List ℕ) → length (recordsFrom k n rest) ≡ n
-unfolding recordsFrom
-records-length k zero rest = refl
-records-length k (suc n) rest = ap suc (records-length k n (drop (recordSize k) rest))
 
 -- accepted records are in order, and each has a label of its own
 pub accepted-ordered : (k n : ℕ) (before : List (List ℕ)) (at : ℕ) (rest : List ℕ) → recordsVerdict k n before at rest ≡ Accepted

@@ -14,8 +14,8 @@ use Rattle.records.specs.Records.{recordAt, recordCount, recordsFrom, recordsIn
 use Rattle.sheet.specs.Parts.{offsetOf, countOf, sectionOf}
 use Rattle.sheet.specs.Parsed.{joined, Faultless, Ordered, LabelsDiffer, sectionsFrom, parse}
 use Rattle.sheet.proofs.Faults.{with-floor}
-use Rattle.sheet.proofs.Labels.{Fresh, fresh-differ}
-use Rattle.sheet.proofs.Parsed.{joined-length, ordered-read, records-length, accepted-ordered, records-joined}
+use Rattle.sheet.proofs.Labels.{Fresh, fresh-differ, records-length}
+use Rattle.sheet.proofs.Parsed.{joined-length, ordered-read, accepted-ordered, records-joined}
 use Rattle.sheet.proofs.Reading.{head-drop, accepted-section, unchecked, unchecked-known, records-accepted}
 
 -- ---- the section of a sheet is its parsed records, joined

@@ -2,6 +2,7 @@
 // Promises: `check` gives the first fault's number and place; `section` a part of the lent bytes; any bytes are taken.
 // Rests on: peek and compare (bytes), buffer (verdicts), records (the table of sections, the fields and faults of a record).
 mod judge;
+mod met;
 mod parts;
 
 pub use judge::check;
