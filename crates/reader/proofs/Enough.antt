@@ -21,7 +21,7 @@ use Rattle.command.specs.Command.{selectOp, loadOp}
 use Rattle.command.specs.Reading.{number, commandVerdict, loadsVerdict, wordsIn}
 use Rattle.records.specs.Sections.{sections, kindOf, mostOf}
 use Rattle.sheet.specs.Parsed.{render}
-use Rattle.sheet.proofs.Longest.{drop-take}
+use Rattle.records.proofs.Records.{drop-take}
 use Rattle.compiler.specs.Stream.{longestStream}
 use Rattle.compiler.specs.Items.{addressOf, lengthsOf, sizeOf, itemSize}
 use Rattle.compiler.specs.Chains.{wordsRead}

@@ -1,16 +1,23 @@
 -- The records of a section's part, by their places and one after the other. Assumes nothing.
-use native.Mathlib.Nat.{le-of-lt, le-trans, mul-le-mul-right, div-mul-le-self, div-lt-iff-lt-mul, div-eq-sub-div, div-eq-of-lt}
+use native.Mathlib.Nat.{sub-zero, le-of-lt, le-trans, mul-le-mul-right, div-mul-le-self, div-lt-iff-lt-mul, div-eq-sub-div, div-eq-of-lt}
 use native.Mathlib.Numerals.{add-one}
 use native.Mathlib.Decide.{decLt, ℕ-discrete}
 use native.Mathlib.Omega.{arith}
 use borrow.Author.Tests.{eq-eqb, ne-eqb}
-use Prim.Native.Nat.{ℕ, _+_, _*_, _/_, _≤_, _<_}
+use Prim.Native.Nat.{ℕ, zero, suc, _+_, _-_, _*_, _/_, _≤_, _<_}
 use mathlib.Core.List.{List, [], _∷_}
-use mathlib.Core.Path.{_≡_}
+use mathlib.Core.Path.{_≡_, sym, ap}
 use lib.ListN.{length, take, drop, length-take, length-drop, drop-of-length-le}
 use lib.Seq.{drop-drop, length-take-le, take-nil}
 use Rattle.records.specs.Sections.{recordSize, slotOf}
 use Rattle.records.specs.Records.{recordAt, recordCount, recordsFrom, recordsIn, front, after}
+
+-- what is left of the first m
+pub drop-take : (a m : ℕ) (l : List ℕ) → drop a (take m l) ≡ take (m - a) (drop a l)
+drop-take zero m l = ap (λ (n : ℕ). take n l) (sym (sub-zero m))
+drop-take (suc a) zero l = let z : zero - suc a ≡ 0 = omega arith in rw z
+drop-take (suc a) (suc m) [] = sym (take-nil (suc m - suc a))
+drop-take (suc a) (suc m) (x ∷ l) = let z : suc m - suc a ≡ m - a = omega arith in rw z (drop-take a m l)
 
 module _ (k : ℕ) (part : List ℕ) (i : ℕ) where
   pub record-past : length part / recordSize k < i → recordAt k part i ≡ []

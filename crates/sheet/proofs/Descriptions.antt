@@ -17,7 +17,7 @@ use Rattle.records.specs.Sections.{sections, labelSize, descriptionSize, descri
 use Rattle.sheet.specs.Reading.{verdict}
 use Rattle.records.specs.Records.{recordAt, recordCount, recordsFrom, find}
 use Rattle.sheet.specs.Parts.{offsetOf, countOf, sectionUnchecked, sectionOf}
-use Rattle.sheet.specs.Parsed.{joined, render, Faultless, Ordered, Sections, WellFormed, parse, AcceptedDescription}
+use Rattle.sheet.specs.Parsed.{joined, render, Faultless, Ordered, LabelsDiffer, Sections, WellFormed, parse, AcceptedDescription}
 use mathlib.Core.Logic.{_↔_}
 use Rattle.kinds.specs.Table as kinds
 use Rattle.kinds.proofs.Rows.{most-byte, most-positive}
@@ -70,7 +70,7 @@ bytes-joined (r ∷ rs) h = bytes-append r (joined rs) (h 0) (bytes-joined rs (�
 pub bytes-rendered : {k : ℕ} {p : List (List (List ℕ))} → Sections k p → ((j i : ℕ) → Bytes (getD (getD p j []) i [])) → Bytes (render p)
 unfolding render
 bytes-rendered Sections.done h = bytes-nil
-bytes-rendered {k} (Sections.next {rs = rs} {ss = ss} o g) h =
+bytes-rendered {k} (Sections.next {rs = rs} {ss = ss} o d g) h =
     bytes-cons (length rs) (joined rs ++ render ss) (omega (arith, ordered-count o (omega arith), most-byte k))
     (bytes-append (joined rs) (render ss) (bytes-joined rs (h 0)) (bytes-rendered g (λ j. h (suc j))))
 
@@ -88,17 +88,20 @@ onlySection (suc n) (suc j) rs = [] ∷ onlySection n j rs
 unfoldable pub sheetWith : ℕ → List ℕ → List ℕ
 sheetWith k d = render (onlySection sections k (recordWith d ∷ []))
 
+none-differ : LabelsDiffer []
+none-differ i j l h = absurd (omega arith)
+
 no-records : (n k : ℕ) → Sections k (replicate n [])
 no-records zero k = Sections.done
-no-records (suc n) k = Sections.next Ordered.done (no-records n (k + 1))
+no-records (suc n) k = Sections.next Ordered.done none-differ (no-records n (k + 1))
 
-only-good : (n j k : ℕ) (rs : List (List ℕ)) → Ordered (k + j) 0 rs → Sections k (onlySection n j rs)
+only-good : (n j k : ℕ) (rs : List (List ℕ)) → Ordered (k + j) 0 rs → LabelsDiffer rs → Sections k (onlySection n j rs)
 unfolding onlySection
-only-good zero j k rs o = Sections.done
-only-good (suc n) zero k rs o = Sections.next (rw (add-zero k) at o) (no-records n (k + 1))
-only-good (suc n) (suc j) k rs o =
+only-good zero j k rs o d = Sections.done
+only-good (suc n) zero k rs o d = Sections.next (rw (add-zero k) at o) d (no-records n (k + 1))
+only-good (suc n) (suc j) k rs o d =
     let e : k + suc j ≡ k + 1 + j = omega arith in
-    Sections.next Ordered.done (only-good n j (k + 1) rs (rw e at o))
+    Sections.next Ordered.done none-differ (only-good n j (k + 1) rs (rw e at o) d)
 
 only-count : (n j : ℕ) (rs : List (List ℕ)) → length (onlySection n j rs) ≡ n
 unfolding onlySection
@@ -146,7 +149,7 @@ module _ (k : ℕ) (d : List ℕ) (h : k < sections) (len : length d ≡ descrip
   one-formed =
       record {
         all = only-count sections k (recordWith d ∷ []);
-        good = only-good sections k 0 (recordWith d ∷ []) (rw (zero-add k) one-record);
+        good = only-good sections k 0 (recordWith d ∷ []) (rw (zero-add k) one-record) (λ i j l h. absurd (omega arith));
       }
 
   -- such a sheet is accepted

@@ -1,5 +1,5 @@
--- Sheets worked out: each refusal 1 to 11 and 18 with its place, and which of two faults wins. One table, computed. Assumes nothing.
-use Prim.Native.Nat.{ℕ, zero, suc}
+-- Sheets worked out: each refusal 1 to 11, 18 and 19 with its place, and which of two faults wins. One table, computed. Assumes nothing.
+use Prim.Native.Nat.{ℕ, zero, suc, _+_}
 use mathlib.Core.Bool.{Bool, true, false, _&&_}
 use mathlib.Core.List.{List, [], _∷_, _++_}
 use mathlib.Core.Path.{_≡_, refl, sym}
@@ -7,6 +7,7 @@ use lib.Count.{ones, onesIn}
 use lib.Dec.{T, eqb, lit<}
 use lib.ListN.{length, getD, replicate}
 use Rattle.peek.specs.Bytes.{u32At}
+use Rattle.compare.specs.Same as same-lists
 use Rattle.compare.specs.Within.{allWithin}
 use Rattle.buffer.specs.declared.Verdict.{Verdict}
 use Rattle.buffer.specs.declared.Verdict.the-variants.{Accepted, Refused}
@@ -14,7 +15,7 @@ use Rattle.lines.specs.Line.{overLines}
 use Rattle.lines.proofs.Ones.{ones-in}
 use Rattle.range.specs.Rule.{rangeFault}
 use Rattle.records.specs.Sections.{fieldBytes, kindOf, mostOf, descriptionSize, descriptionFault, labelSize}
-use Rattle.sheet.specs.Reading.{recordFault, recordsVerdict, countVerdict, sectionVerdict, sectionsVerdict, verdict}
+use Rattle.sheet.specs.Reading.{among, recordFault, recordsVerdict, countVerdict, sectionVerdict, sectionsVerdict, verdict}
 use Rattle.records.specs.Records.{recordsFrom}
 use Rattle.sheet.specs.Parsed.{joined, render, longestSheet, sectionsFrom, parse}
 use Rattle.sheet.proofs.Descriptions.{sheetWith, recordWith, onlySection, sheet-with}
@@ -48,10 +49,14 @@ state number branch flag = fieldBytes (number ∷ []) ++ (branch ∷ (replicate 
 pub sheet : (terms ranges edges sums states : List (List ℕ)) → List ℕ
 sheet terms ranges edges sums states = render (terms ∷ ranges ∷ edges ∷ sums ∷ states ∷ [])
 
--- n blank records with slots from i on
+-- n records with slots from i on, each with a label byte of its own
 pub slots : ℕ → ℕ → List ℕ → List (List ℕ)
 slots zero i d = []
-slots (suc n) i d = blank i d ∷ slots n (suc i) d
+slots (suc n) i d = labelled i (0x20 + i) d ∷ slots n (suc i) d
+
+-- a term with seven spaces and this byte in its label
+pub ending : (slot last : ℕ) → List ℕ
+ending slot last = slot ∷ (replicate 7 0x20 ++ (last ∷ term))
 
 -- every slot of every section is taken
 pub full : List ℕ
@@ -105,7 +110,7 @@ table =
     -- 6, P: lower 0; before 7 and 8; the second of two ranges
     ∷ gives (sheetWith 1 (three 0 1 1)) (Refused 6 2)
     ∷ gives (sheetWith 1 (three 0 0 0)) (Refused 6 2)
-    ∷ gives (sheet [] (blank 0 (three 1 1 1) ∷ blank 1 (three 0 1 1) ∷ []) [] [] []) (Refused 6 23)
+    ∷ gives (sheet [] (blank 0 (three 1 1 1) ∷ labelled 1 0x41 (three 0 1 1) ∷ []) [] [] []) (Refused 6 23)
     -- 7: before 8
     ∷ gives (sheetWith 1 (three 3 2 1)) (Refused 7 2)
     -- 8, P: mask 1, 1..1 accepted, 1..2 refused; mask 0 never passes
@@ -127,6 +132,26 @@ table =
     ∷ gives (sheet [] [] [] [] (labelled 0 0x7F (state 0 16 0) ∷ [])) (Refused 5 5)
     ∷ gives (sheet [] [] [] [] (blank 15 (state 0 0 0) ∷ blank 16 (state 0 16 0) ∷ [])) (Refused 3 27)
     ∷ gives (sheet [] [] [] (blank 0 (replicate 11 10) ∷ []) (blank 0 (state 0 16 0) ∷ [])) (Refused 10 4)
+    -- 19: the label of the record before, and of one before that; two blank ones; every byte counts
+    ∷ gives (sheet (labelled 0 0x41 term ∷ labelled 1 0x41 term ∷ []) [] [] [] []) (Refused 19 18)
+    ∷ gives (sheet (labelled 0 0x41 term ∷ labelled 1 0x42 term ∷ labelled 2 0x41 term ∷ []) [] [] [] []) (Refused 19 35)
+    ∷ gives (sheet (blank 0 term ∷ blank 9 term ∷ []) [] [] [] []) (Refused 19 18)
+    ∷ gives (sheet (blank 0 term ∷ ending 1 0x2E ∷ []) [] [] [] []) Accepted
+    ∷ gives (sheet (ending 0 0x2E ∷ ending 1 0x2E ∷ []) [] [] [] []) (Refused 19 18)
+    -- the last of a full section as the first; in another section the same label is none
+    ∷ gives (sheet [] [] [] (slots 47 0 sum ++ (blank 47 sum ∷ [])) []) (Refused 19 944)
+    ∷ gives (sheet (blank 0 term ∷ []) (blank 0 (three 1 1 1) ∷ []) [] (blank 0 sum ∷ []) (blank 0 (state 0 0 0) ∷ [])) Accepted
+    -- behind 3, 4 and 5 of its own record, before 6, 9, 10 and 18
+    ∷ gives (sheet (blank 0 term ∷ blank 10 term ∷ []) [] [] [] []) (Refused 3 18)
+    ∷ gives (sheet (labelled 0 0x7F term ∷ labelled 1 0x7F term ∷ []) [] [] [] []) (Refused 5 1)
+    ∷ gives (sheet [] (blank 0 (three 1 1 1) ∷ blank 1 (three 0 1 1) ∷ []) [] [] []) (Refused 19 23)
+    ∷ gives (sheet [] [] (blank 0 (three 0 0 0) ∷ blank 1 (three 1 0 1) ∷ []) [] []) (Refused 19 24)
+    ∷ gives (sheet [] [] [] (blank 0 sum ∷ blank 1 (replicate 11 10) ∷ []) []) (Refused 19 24)
+    ∷ gives (sheet [] [] [] [] (blank 0 (state 0 0 0) ∷ blank 1 (state 0 16 0) ∷ [])) (Refused 19 27)
+    -- a record's own fault before it, and a cut one behind it
+    ∷ gives (sheet [] (blank 0 (three 0 1 1) ∷ blank 1 (three 1 1 1) ∷ []) [] [] []) (Refused 6 2)
+    ∷ gives (3 ∷ (blank 0 term ++ blank 1 term)) (Refused 19 18)
+    ∷ gives (2 ∷ (blank 0 term ++ (1 ∷ replicate 15 0x20))) (Refused 1 18)
     -- 11: comes last
     ∷ gives (replicate 5 0 ++ (7 ∷ [])) (Refused 11 5)
     ∷ gives (full ++ (0 ∷ 0 ∷ [])) (Refused 11 1571)
@@ -135,7 +160,7 @@ table =
     ∷ []
 
 pub examples : T (allHold table)
-unfolding labelled blank term sum three state sheet slots full gives same allHold table joined render verdict sectionsVerdict sectionVerdict countVerdict recordsVerdict recordFault descriptionFault term-kind.fault range-kind.fault rangeFault edge-kind.fault sum-kind.fault state-kind.fault overLines allWithin u32At fieldBytes kindOf mostOf descriptionSize ones onesIn sheetWith recordWith onlySection
+unfolding labelled blank ending term sum three state sheet slots full gives same allHold table joined render verdict sectionsVerdict sectionVerdict countVerdict recordsVerdict recordFault among same-lists.same descriptionFault term-kind.fault range-kind.fault rangeFault edge-kind.fault sum-kind.fault state-kind.fault overLines allWithin u32At fieldBytes kindOf mostOf descriptionSize ones onesIn sheetWith recordWith onlySection
 examples = tt
 
 -- the same of descriptions alone; P: lower 0, and mask 1 with 1..1 and 1..2
@@ -164,7 +189,7 @@ unfolding labelled blank term sum three state sheet slots full joined render fie
 full-length = refl
 
 pub full-accepted : verdict full ≡ Accepted
-unfolding labelled blank term sum three state sheet slots full joined render verdict sectionsVerdict sectionVerdict countVerdict recordsVerdict recordFault descriptionFault term-kind.fault range-kind.fault rangeFault edge-kind.fault sum-kind.fault state-kind.fault overLines allWithin u32At fieldBytes kindOf mostOf descriptionSize ones onesIn
+unfolding labelled blank term sum three state sheet slots full joined render verdict sectionsVerdict sectionVerdict countVerdict recordsVerdict recordFault among same-lists.same descriptionFault term-kind.fault range-kind.fault rangeFault edge-kind.fault sum-kind.fault state-kind.fault overLines allWithin u32At fieldBytes kindOf mostOf descriptionSize ones onesIn
 full-accepted = refl
 
 -- it has the most records that each section may have

@@ -1,5 +1,7 @@
 pub mod Faults
+pub mod Labels
 pub mod Reading
+pub mod Behind
 pub mod Spanning
 pub mod Parsed
 pub mod Records

@@ -3,14 +3,15 @@ use Prim.Native.Nat.{ℕ, zero, suc, _+_, _-_, _*_, _≤_, _<_}
 use mathlib.Core.List.{List, [], _∷_}
 use mathlib.Core.Path.{_≡_, refl, sym, ap, _∙_}
 use native.Mathlib.Decide.{decLe}
-use native.Mathlib.Nat.{suc-mul, sub-zero, mul-le-mul-right}
+use native.Mathlib.Nat.{suc-mul, mul-le-mul-right}
 use native.Mathlib.Omega.{arith}
 use borrow.Author.Tests.{lt-ltb}
 use lib.ListN.{length, getD, take, drop, length-append}
-use lib.Seq.{take-nil, take-take, getD-take}
+use lib.Seq.{take-take, getD-take}
+use Rattle.records.proofs.Records.{drop-take}
 use Rattle.buffer.specs.declared.Verdict.the-variants.{Accepted}
 use Rattle.buffer.proofs.Faults.{andThen-same}
-use Rattle.records.specs.Sections.{sections, mostOf, recordSize, sectionSize, slotOf}
+use Rattle.records.specs.Sections.{sections, mostOf, recordSize, sectionSize}
 use Rattle.sheet.specs.Reading.{nextRecord, recordsVerdict, sectionVerdict, sectionsVerdict, verdict}
 use Rattle.sheet.specs.Parsed.{joined, render, Sections}
 use Rattle.sheet.proofs.Parsed.{ordered-count, joined-length, accepted-well-formed, accepted-rendered}
@@ -24,7 +25,7 @@ longestFrom (suc n) k = sectionSize k (mostOf k) + longestFrom n (k + 1)
 sections-long : {k : ℕ} {p : List (List (List ℕ))} → Sections k p → length (render p) ≤ longestFrom (length p) k
 unfolding render longestFrom
 sections-long Sections.done = omega arith
-sections-long {k} (Sections.next {rs = rs} {ss = ss} o g) =
+sections-long {k} (Sections.next {rs = rs} {ss = ss} o d g) =
     let few = mul-le-mul-right (recordSize k) (ordered-count o (omega arith)) in
     omega (arith, few, sections-long g, length-append (joined rs) (render ss), joined-length o)
 
@@ -35,22 +36,17 @@ longest s ok =
 
 -- ---- what is read of a sheet does not depend on the bytes past the longest
 
-pub drop-take : (a m : ℕ) (l : List ℕ) → drop a (take m l) ≡ take (m - a) (drop a l)
-drop-take zero m l = ap (λ (n : ℕ). take n l) (sym (sub-zero m))
-drop-take (suc a) zero l = let z : zero - suc a ≡ 0 = omega arith in rw z
-drop-take (suc a) (suc m) [] = sym (take-nil (suc m - suc a))
-drop-take (suc a) (suc m) (x ∷ l) = let z : suc m - suc a ≡ m - a = omega arith in rw z (drop-take a m l)
-
-records-enough : (k n floor at m : ℕ) (rest : List ℕ) → n * recordSize k ≤ m → recordsVerdict k n floor at (take m rest) ≡ recordsVerdict k n floor at rest
+records-enough : (k n : ℕ) (before : List (List ℕ)) (at m : ℕ) (rest : List ℕ) → n * recordSize k ≤ m
+    → recordsVerdict k n before at (take m rest) ≡ recordsVerdict k n before at rest
 unfolding recordsVerdict
-records-enough k zero floor at m rest h = refl
-records-enough k (suc n) floor at m rest h =
+records-enough k zero before at m rest h = refl
+records-enough k (suc n) before at m rest h =
     let size = recordSize k in
     let l : size + n * size ≤ m = omega (arith, suc-mul n size) in
     rw (
       take-take size m rest (omega arith),
       drop-take size m rest,
-      records-enough k n (slotOf (nextRecord k rest) + 1) (at + size) (m - size) (drop size rest) (omega arith),
+      records-enough k n (nextRecord k rest ∷ before) (at + size) (m - size) (drop size rest) (omega arith),
     )
 
 section-enough : (k at m : ℕ) (rest : List ℕ) → sectionSize k (mostOf k) ≤ m → sectionVerdict k at (take m rest) ≡ sectionVerdict k at rest
@@ -60,7 +56,7 @@ section-enough k at (suc m) (x ∷ l) h =
     elim (decLe x (mostOf k)) [
       | yes few ↦
           count-fits k at (x ∷ take m l) (omega arith) few
-          ∙ records-enough k x 0 (at + 1) m l (omega (arith, mul-le-mul-right (recordSize k) few))
+          ∙ records-enough k x [] (at + 1) m l (omega (arith, mul-le-mul-right (recordSize k) few))
           ∙ sym (count-fits k at (x ∷ l) (omega arith) few)
       | no many ↦
           count-above k at (x ∷ take m l) (omega arith) (omega arith) ∙ sym (count-above k at (x ∷ l) (omega arith) (omega arith))

@@ -1,7 +1,7 @@
 -- A refusal of a sheet has a number that is not 0, so that 0 stands for an accepted sheet. Assumes nothing.
 use Prim.Native.Nat.{ℕ, zero, suc, _+_, _<_}
 use mathlib.Core.Bool.{Bool, true, false}
-use mathlib.Core.List.{List}
+use mathlib.Core.List.{List, [], _∷_}
 use mathlib.Core.Path.{_≡_, refl, sym, ap, _∙_}
 use native.Mathlib.Omega.{arith}
 use lib.Dec.{lit<, ltb}
@@ -9,7 +9,7 @@ use lib.ListN.{length, getD, drop}
 use Rattle.buffer.specs.Verdict.{andThen, refuseIf, refuseFault, verdictNumber, verdictPlace, VerdictNumbered}
 use Rattle.buffer.specs.declared.Verdict.{Verdict}
 use Rattle.buffer.specs.declared.Verdict.the-variants.{Accepted, Refused}
-use Rattle.records.specs.Sections.{sections, mostOf, recordSize, sectionSize, slotOf}
+use Rattle.records.specs.Sections.{sections, mostOf, recordSize, sectionSize}
 use Rattle.sheet.specs.Reading.{recordFault, nextRecord, recordsVerdict, countVerdict, sectionVerdict, sectionsVerdict, verdict}
 
 abbrev Numbered : Verdict → Type 0
@@ -28,23 +28,23 @@ fault-numbered : (n place : ℕ) → Numbered (refuseFault n place)
 fault-numbered zero place = tt
 fault-numbered (suc n) place = omega arith
 
-records-numbered : (k n floor at : ℕ) (rest : List ℕ) → Numbered (recordsVerdict k n floor at rest)
+records-numbered : (k n : ℕ) (before : List (List ℕ)) (at : ℕ) (rest : List ℕ) → Numbered (recordsVerdict k n before at rest)
 unfolding recordsVerdict
-records-numbered k zero floor at rest = tt
-records-numbered k (suc n) floor at rest =
-    let fault = recordFault k floor (nextRecord k rest) in
-    let later = recordsVerdict k n (slotOf (nextRecord k rest) + 1) (at + recordSize k) (drop (recordSize k) rest) in
+records-numbered k zero before at rest = tt
+records-numbered k (suc n) before at rest =
+    let fault = recordFault k before (nextRecord k rest) in
+    let later = recordsVerdict k n (nextRecord k rest ∷ before) (at + recordSize k) (drop (recordSize k) rest) in
     then-numbered (refuseFault fault at) later (fault-numbered fault at)
-    (records-numbered k n (slotOf (nextRecord k rest) + 1) (at + recordSize k) (drop (recordSize k) rest))
+    (records-numbered k n (nextRecord k rest ∷ before) (at + recordSize k) (drop (recordSize k) rest))
 
 section-numbered : (k at : ℕ) (rest : List ℕ) → Numbered (sectionVerdict k at rest)
 unfolding sectionVerdict countVerdict
 section-numbered k at rest =
     let missing = ltb (length rest) 1 in
     let many = ltb (mostOf k) (getD rest 0 0) in
-    then-numbered (countVerdict k at rest) (recordsVerdict k (getD rest 0 0) 0 (at + 1) (drop 1 rest))
+    then-numbered (countVerdict k at rest) (recordsVerdict k (getD rest 0 0) [] (at + 1) (drop 1 rest))
     (then-numbered (refuseIf missing 1 at) (refuseIf many 2 at) (if-numbered missing 1 at (lit< tt)) (if-numbered many 2 at (lit< tt)))
-    (records-numbered k (getD rest 0 0) 0 (at + 1) (drop 1 rest))
+    (records-numbered k (getD rest 0 0) [] (at + 1) (drop 1 rest))
 
 sections-numbered : (n k at : ℕ) (rest : List ℕ) → Numbered (sectionsVerdict n k at rest)
 unfolding sectionsVerdict

@@ -1,4 +1,5 @@
--- An accepted sheet is exactly what its sections render to: each a count and as many records without fault, in rising order.
+-- An accepted sheet is exactly what its sections render to: each a count and as many records without fault, in rising
+-- order and under different labels.
 -- Assumes nothing.
 use borrow.Author.Tests.{ltb-false}
 use native.Mathlib.Nat.{zero-mul, suc-mul, add-comm}
@@ -13,10 +14,11 @@ use Rattle.buffer.specs.Verdict.{refuseFault}
 use Rattle.buffer.specs.declared.Verdict.the-variants.{Accepted}
 use Rattle.buffer.proofs.Faults.{andThen-accepted, refuseIf-accepted, refuseFault-accepted}
 use Rattle.records.specs.Sections.{sections, mostOf, recordSize, sectionSize, slotOf}
-use Rattle.sheet.specs.Reading.{recordFault, nextRecord, recordsVerdict, sectionVerdict, sectionsVerdict, verdict}
+use Rattle.sheet.specs.Reading.{leastSlot, recordFault, nextRecord, recordsVerdict, sectionVerdict, sectionsVerdict, verdict}
 use Rattle.records.specs.Records.{recordsFrom}
 use Rattle.sheet.specs.Parsed.{joined, render, Ordered, Sections, WellFormed, sectionsFrom, parse}
 use Rattle.sheet.proofs.Faults.{no-fault}
+use Rattle.sheet.proofs.Labels.{Fresh, fresh-differ, differ-fresh}
 use Rattle.sheet.proofs.Reading.{then-next, next-faultless, counted, records-accepted, count-fits}
 
 -- ---- records
@@ -34,13 +36,13 @@ joined-length {k} (Ordered.next {r = r} {rs = rs} f o) =
     rw (length-append r (joined rs), f .whole, joined-length o, suc-mul (length rs) (recordSize k)) (add-comm (recordSize k) (length rs * recordSize k))
 
 -- such records are accepted, whatever follows
-pub ordered-accepted : {k floor : ℕ} {rs : List (List ℕ)} → Ordered k floor rs → (at : ℕ) (rest : List ℕ)
-    → recordsVerdict k (length rs) floor at (joined rs ++ rest) ≡ Accepted
+pub ordered-accepted : {k : ℕ} {before rs : List (List ℕ)} → Ordered k (leastSlot before) rs → Fresh before rs → (at : ℕ) (rest : List ℕ)
+    → recordsVerdict k (length rs) before at (joined rs ++ rest) ≡ Accepted
 unfolding joined recordsVerdict
-ordered-accepted Ordered.done at rest = refl
-ordered-accepted {k} {floor} (Ordered.next {r = r} {rs = rs} f o) at rest =
-    rw (append-assoc r (joined rs) rest, take-at r (joined rs ++ rest) (recordSize k) (f .whole), drop-at r (joined rs ++ rest) (recordSize k) (f .whole), no-fault k floor r f)
-    (ordered-accepted o (at + recordSize k) rest)
+ordered-accepted Ordered.done Fresh.done at rest = refl
+ordered-accepted {k} {before} (Ordered.next {r = r} {rs = rs} f o) (Fresh.next new more) at rest =
+    rw (append-assoc r (joined rs) rest, take-at r (joined rs ++ rest) (recordSize k) (f .whole), drop-at r (joined rs ++ rest) (recordSize k) (f .whole), no-fault k before r f new)
+    (ordered-accepted o more (at + recordSize k) rest)
 
 -- and they are read back
 pub ordered-read : {k floor : ℕ} {rs : List (List ℕ)} → Ordered k floor rs → (rest : List ℕ) → recordsFrom k (length rs) (joined rs ++ rest) ≡ rs
@@ -54,15 +56,17 @@ unfolding recordsFrom
 records-length k zero rest = refl
 records-length k (suc n) rest = ap suc (records-length k n (drop (recordSize k) rest))
 
--- accepted records are in order
-pub accepted-ordered : (k n floor at : ℕ) (rest : List ℕ) → recordsVerdict k n floor at rest ≡ Accepted → Ordered k floor (recordsFrom k n rest)
+-- accepted records are in order, and each has a label of its own
+pub accepted-ordered : (k n : ℕ) (before : List (List ℕ)) (at : ℕ) (rest : List ℕ) → recordsVerdict k n before at rest ≡ Accepted
+    → Ordered k (leastSlot before) (recordsFrom k n rest) × Fresh before (recordsFrom k n rest)
 unfolding recordsVerdict recordsFrom
-accepted-ordered k zero floor at rest e = Ordered.done
-accepted-ordered k (suc n) floor at rest e =
-    let later = recordsVerdict k n (slotOf (nextRecord k rest) + 1) (at + recordSize k) (drop (recordSize k) rest) in
-    let both = andThen-accepted (refuseFault (recordFault k floor (nextRecord k rest)) at) later e in
-    Ordered.next (next-faultless k floor rest (refuseFault-accepted _ at (both .0)))
-    (accepted-ordered k n (slotOf (nextRecord k rest) + 1) (at + recordSize k) (drop (recordSize k) rest) (both .1))
+accepted-ordered k zero before at rest e = (Ordered.done, Fresh.done)
+accepted-ordered k (suc n) before at rest e =
+    let later = recordsVerdict k n (nextRecord k rest ∷ before) (at + recordSize k) (drop (recordSize k) rest) in
+    let both = andThen-accepted (refuseFault (recordFault k before (nextRecord k rest)) at) later e in
+    let here = next-faultless k before rest (refuseFault-accepted _ at (both .0)) in
+    let more = accepted-ordered k n (nextRecord k rest ∷ before) (at + recordSize k) (drop (recordSize k) rest) (both .1) in
+    (Ordered.next (here .0) (more .0), Fresh.next (here .1) (more .1))
 
 -- what is read, put together again
 pub records-joined : (k n : ℕ) (rest : List ℕ) → joined (recordsFrom k n rest) ++ drop (n * recordSize k) rest ≡ rest
@@ -97,9 +101,9 @@ after-section {k} {rs} o rest = rw (one-add (length rs * recordSize k)) (drop-at
 pub sections-accepted : {k : ℕ} {p : List (List (List ℕ))} → Sections k p → (at : ℕ) → sectionsVerdict (length p) k at (render p) ≡ Accepted
 unfolding render sectionsVerdict
 sections-accepted Sections.done at = refl
-sections-accepted {k} (Sections.next {rs = rs} {ss = ss} o g) at =
+sections-accepted {k} (Sections.next {rs = rs} {ss = ss} o d g) at =
     let rest = length rs ∷ (joined rs ++ render ss) in
-    let records = count-fits k at rest (omega arith) (omega (arith, ordered-count o (omega arith))) ∙ ordered-accepted o (at + 1) (render ss) in
+    let records = count-fits k at rest (omega arith) (omega (arith, ordered-count o (omega arith))) ∙ ordered-accepted o (differ-fresh rs d) (at + 1) (render ss) in
     then-next (sectionVerdict k at rest) _ records
     ∙ rw (after-section o (render ss)) (sections-accepted g (at + sectionSize k (length rs)))
 
@@ -107,7 +111,7 @@ sections-accepted {k} (Sections.next {rs = rs} {ss = ss} o g) at =
 pub sections-read : {k : ℕ} {p : List (List (List ℕ))} → Sections k p → sectionsFrom (length p) k (render p) ≡ p
 unfolding render sectionsFrom
 sections-read Sections.done = refl
-sections-read {k} (Sections.next {rs = rs} {ss = ss} o g) = rw (after-section o (render ss), ordered-read o (render ss), sections-read g)
+sections-read {k} (Sections.next {rs = rs} {ss = ss} o d g) = rw (after-section o (render ss), ordered-read o (render ss), sections-read g)
 
 pub sections-count : (n k : ℕ) (rest : List ℕ) → length (sectionsFrom n k rest) ≡ n
 unfolding sectionsFrom
@@ -129,7 +133,8 @@ accepted-sections (suc n) k at rest e =
     let size = sectionSize k (getD rest 0 0) in
     let later = sectionsVerdict n (k + 1) (at + size) (drop size rest) in
     let both = andThen-accepted (sectionVerdict k at rest) later e in
-    Sections.next (accepted-ordered k (getD rest 0 0) 0 (at + 1) (drop 1 rest) (records-accepted k at rest (both .0)))
+    let here = accepted-ordered k (getD rest 0 0) [] (at + 1) (drop 1 rest) (records-accepted k at rest (both .0)) in
+    Sections.next (here .0) (fresh-differ (here .1))
     (accepted-sections n (k + 1) (at + size) (drop size rest) (both .1))
 
 pub sections-rendered : (n k at : ℕ) (rest : List ℕ) → sectionsVerdict n k at rest ≡ Accepted → render (sectionsFrom n k rest) ≡ rest

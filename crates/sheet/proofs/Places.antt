@@ -1,6 +1,6 @@
 -- The place of a refusal is an offset of the sheet, or its length where something is missing. Assumes nothing.
 use Prim.Native.Nat.{ℕ, zero, suc, _+_, _≤_, _<_}
-use mathlib.Core.List.{List}
+use mathlib.Core.List.{List, [], _∷_}
 use mathlib.Core.Path.{_≡_, refl}
 use mathlib.Core.Bool.{Bool, true, false}
 use native.Mathlib.Omega.{arith}
@@ -11,7 +11,7 @@ use Rattle.buffer.specs.Verdict.{andThen, refuseIf, refuseFault}
 use Rattle.buffer.specs.declared.Verdict.{Verdict}
 use Rattle.buffer.specs.declared.Verdict.the-variants.{Accepted, Refused}
 use Rattle.buffer.proofs.Faults.{andThen-accepted, refuseIf-accepted}
-use Rattle.records.specs.Sections.{sections, mostOf, recordSize, sectionSize, slotOf}
+use Rattle.records.specs.Sections.{sections, mostOf, recordSize, sectionSize}
 use Rattle.sheet.specs.Reading.{recordFault, nextRecord, recordsVerdict, countVerdict, sectionVerdict, sectionsVerdict, verdict}
 use Rattle.sheet.proofs.Reading.{next-faultless, section-whole}
 
@@ -37,13 +37,13 @@ before-fault : (end fault at : ℕ) (w : Verdict) → at ≤ end → (fault ≡ 
 before-fault end zero at w h g = g refl
 before-fault end (suc n) at w h g = before-refused end (suc n) at h
 
-records-place : (end k n floor at : ℕ) (rest : List ℕ) → at + length rest ≡ end → Before end (recordsVerdict k n floor at rest)
+records-place : (end k n : ℕ) (before : List (List ℕ)) (at : ℕ) (rest : List ℕ) → at + length rest ≡ end → Before end (recordsVerdict k n before at rest)
 unfolding recordsVerdict
-records-place end k zero floor at rest l = before-accepted end
-records-place end k (suc n) floor at rest l =
-    before-fault end (recordFault k floor (nextRecord k rest)) at _ (omega arith)
-    (λ ok. records-place end k n (slotOf (nextRecord k rest) + 1) (at + recordSize k) (drop (recordSize k) rest)
-    (omega (arith, next-faultless k floor rest ok .whole, length-take (recordSize k) rest, length-drop (recordSize k) rest)))
+records-place end k zero before at rest l = before-accepted end
+records-place end k (suc n) before at rest l =
+    before-fault end (recordFault k before (nextRecord k rest)) at _ (omega arith)
+    (λ ok. records-place end k n (nextRecord k rest ∷ before) (at + recordSize k) (drop (recordSize k) rest)
+    (omega (arith, next-faultless k before rest ok .0 .whole, length-take (recordSize k) rest, length-drop (recordSize k) rest)))
 
 count-there : (k at : ℕ) (rest : List ℕ) → countVerdict k at rest ≡ Accepted → 0 < length rest
 unfolding countVerdict
@@ -57,7 +57,7 @@ section-place end k at rest l =
     before-then end (countVerdict k at rest) _
     (before-then end (refuseIf (ltb (length rest) 1) 1 at) _ (before-if end (ltb (length rest) 1) 1 at h)
     (λ e. before-if end (ltb (mostOf k) (getD rest 0 0)) 2 at h))
-    (λ e. records-place end k (getD rest 0 0) 0 (at + 1) (drop 1 rest) (omega (arith, count-there k at rest e, length-drop 1 rest)))
+    (λ e. records-place end k (getD rest 0 0) [] (at + 1) (drop 1 rest) (omega (arith, count-there k at rest e, length-drop 1 rest)))
 
 sections-place : (end n k at : ℕ) (rest : List ℕ) → at + length rest ≡ end → Before end (sectionsVerdict n k at rest)
 unfolding sectionsVerdict

@@ -6,7 +6,7 @@ use native.Mathlib.Numerals.{add-one}
 use native.Mathlib.Omega.{arith}
 use Prim.Native.Nat.{ℕ, zero, suc, _+_, _-_, _*_, _≤_, _<_}
 use mathlib.Core.Bool.{Bool, true, false, cond, _&&_}
-use mathlib.Core.List.{List, []}
+use mathlib.Core.List.{List, [], _∷_, map}
 use mathlib.Core.Path.{_≡_, refl, sym, ap, _∙_}
 use lib.Dec.{ltb}
 use lib.ListN.{length, getD, take, drop, length-take, length-drop, drop-of-length-le}
@@ -15,8 +15,8 @@ use Rattle.buffer.specs.Verdict.{andThen, refuseIf, refuseFault, isAccepted}
 use Rattle.buffer.specs.declared.Verdict.{Verdict}
 use Rattle.buffer.specs.declared.Verdict.the-variants.{Accepted, Refused}
 use Rattle.buffer.proofs.Faults.{andThen-accepted, refuseIf-accepted, refuseFault-accepted}
-use Rattle.records.specs.Sections.{sections, mostOf, recordSize, sectionSize, slotOf}
-use Rattle.sheet.specs.Reading.{recordFault, nextRecord, recordsVerdict, countVerdict, sectionVerdict, sectionsVerdict, verdict}
+use Rattle.records.specs.Sections.{sections, mostOf, recordSize, sectionSize, labelOf}
+use Rattle.sheet.specs.Reading.{among, leastSlot, recordFault, nextRecord, recordsVerdict, countVerdict, sectionVerdict, sectionsVerdict, verdict}
 use Rattle.sheet.specs.Parts.{offsetOf, countOf, sectionUnchecked, sectionOf, sectionStart}
 use Rattle.sheet.specs.Parsed.{Faultless}
 use Rattle.sheet.proofs.Faults.{faultless}
@@ -33,31 +33,32 @@ refuse-fault (suc n) at w h = refl
 -- ---- records
 
 -- the next record, where it has no fault
-pub next-faultless : (k floor : ℕ) (rest : List ℕ) → recordFault k floor (nextRecord k rest) ≡ 0 → Faultless k floor (nextRecord k rest)
-next-faultless k floor rest e = faultless k floor (nextRecord k rest) (omega (arith, length-take (recordSize k) rest)) e
+pub next-faultless : (k : ℕ) (before : List (List ℕ)) (rest : List ℕ) → recordFault k before (nextRecord k rest) ≡ 0
+    → Faultless k (leastSlot before) (nextRecord k rest) × (among (labelOf (nextRecord k rest)) (map labelOf before) ≡ false)
+next-faultless k before rest e = faultless k before (nextRecord k rest) (omega (arith, length-take (recordSize k) rest)) e
 
-module _ (k floor at : ℕ) (s : List ℕ) where
-  pub records-end : recordsVerdict k 0 floor at s ≡ Accepted
+module _ (k : ℕ) (before : List (List ℕ)) (at : ℕ) (s : List ℕ) where
+  pub records-end : recordsVerdict k 0 before at s ≡ Accepted
   unfolding recordsVerdict
   records-end = refl
 
-  pub records-refuse : (left : ℕ) → 0 < left → (recordFault k floor (nextRecord k (drop at s)) ≡ 0 → ⊥)
-      → recordsVerdict k left floor at (drop at s) ≡ Refused (recordFault k floor (nextRecord k (drop at s))) at
+  pub records-refuse : (left : ℕ) → 0 < left → (recordFault k before (nextRecord k (drop at s)) ≡ 0 → ⊥)
+      → recordsVerdict k left before at (drop at s) ≡ Refused (recordFault k before (nextRecord k (drop at s))) at
   unfolding recordsVerdict
   records-refuse zero l h = absurd (omega arith)
-  records-refuse (suc n) l h = refuse-fault (recordFault k floor (nextRecord k (drop at s))) at _ h
+  records-refuse (suc n) l h = refuse-fault (recordFault k before (nextRecord k (drop at s))) at _ h
 
-  pub records-next : (left : ℕ) → 0 < left → recordFault k floor (nextRecord k (drop at s)) ≡ 0
-      → recordsVerdict k left floor at (drop at s)
-      ≡ recordsVerdict k (left - 1) (slotOf (nextRecord k (drop at s)) + 1) (at + recordSize k) (drop (at + recordSize k) s)
+  pub records-next : (left : ℕ) → 0 < left → recordFault k before (nextRecord k (drop at s)) ≡ 0
+      → recordsVerdict k left before at (drop at s)
+      ≡ recordsVerdict k (left - 1) (nextRecord k (drop at s) ∷ before) (at + recordSize k) (drop (at + recordSize k) s)
   unfolding recordsVerdict
   records-next zero l e = absurd (omega arith)
   records-next (suc n) l e =
       let p : suc n - 1 ≡ n = omega arith in
       rw (p, e, drop-drop (recordSize k) at s)
 
-  pub next-fits : recordFault k floor (nextRecord k (drop at s)) ≡ 0 → at + recordSize k ≤ length s
-  next-fits e = omega (arith, next-faultless k floor (drop at s) e .whole, length-take (recordSize k) (drop at s), length-drop at s)
+  pub next-fits : recordFault k before (nextRecord k (drop at s)) ≡ 0 → at + recordSize k ≤ length s
+  next-fits e = omega (arith, next-faultless k before (drop at s) e .0 .whole, length-take (recordSize k) (drop at s), length-drop at s)
 
 -- ---- sections
 
@@ -76,7 +77,7 @@ module _ (k at : ℕ) (rest : List ℕ) where
     unfolding sectionVerdict countVerdict
     count-above m = simp (le-ltb (length rest) 1 (omega arith), lt-ltb (mostOf k) (getD rest 0 0) m)
 
-    pub count-fits : getD rest 0 0 ≤ mostOf k → sectionVerdict k at rest ≡ recordsVerdict k (getD rest 0 0) 0 (at + 1) (drop 1 rest)
+    pub count-fits : getD rest 0 0 ≤ mostOf k → sectionVerdict k at rest ≡ recordsVerdict k (getD rest 0 0) [] (at + 1) (drop 1 rest)
     unfolding sectionVerdict countVerdict
     count-fits m = simp (le-ltb (length rest) 1 (omega arith), le-ltb (mostOf k) (getD rest 0 0) m)
 
@@ -85,7 +86,7 @@ module _ (k at : ℕ) (rest : List ℕ) where
     pub counted : (0 < length rest) × (getD rest 0 0 ≤ mostOf k)
     unfolding sectionVerdict countVerdict
     counted =
-        let records = recordsVerdict k (getD rest 0 0) 0 (at + 1) (drop 1 rest) in
+        let records = recordsVerdict k (getD rest 0 0) [] (at + 1) (drop 1 rest) in
         let here = refuseIf (ltb (length rest) 1) 1 at in
         let few = refuseIf (ltb (mostOf k) (getD rest 0 0)) 2 at in
         let both = andThen-accepted here few (andThen-accepted (andThen here few) records ok .0) in (
@@ -93,7 +94,7 @@ module _ (k at : ℕ) (rest : List ℕ) where
           ltb-false (mostOf k) (getD rest 0 0) (refuseIf-accepted _ 2 at (both .1)),
         )
 
-    pub records-accepted : recordsVerdict k (getD rest 0 0) 0 (at + 1) (drop 1 rest) ≡ Accepted
+    pub records-accepted : recordsVerdict k (getD rest 0 0) [] (at + 1) (drop 1 rest) ≡ Accepted
     records-accepted = sym (count-fits (counted .0) (counted .1)) ∙ ok
 
 -- at an offset of a sheet
@@ -109,24 +110,24 @@ module _ (k at : ℕ) (s : List ℕ) where
     section-many m = count-above k at (drop at s) here (rw (head-drop s at) m)
 
     pub section-records : getD s at 0 ≤ mostOf k
-        → sectionVerdict k at (drop at s) ≡ recordsVerdict k (getD s at 0) 0 (at + 1) (drop (at + 1) s)
+        → sectionVerdict k at (drop at s) ≡ recordsVerdict k (getD s at 0) [] (at + 1) (drop (at + 1) s)
     section-records m = rw (head-drop s at, drop-drop 1 at s) at (count-fits k at (drop at s) here (rw (head-drop s at) m))
 
 -- accepted records fill their room
-records-fit : (k n floor at : ℕ) (rest : List ℕ) → recordsVerdict k n floor at rest ≡ Accepted → n * recordSize k ≤ length rest
+records-fit : (k n : ℕ) (before : List (List ℕ)) (at : ℕ) (rest : List ℕ) → recordsVerdict k n before at rest ≡ Accepted → n * recordSize k ≤ length rest
 unfolding recordsVerdict
-records-fit k zero floor at rest e = omega arith
-records-fit k (suc n) floor at rest e =
+records-fit k zero before at rest e = omega arith
+records-fit k (suc n) before at rest e =
     let size = recordSize k in
-    let later = recordsVerdict k n (slotOf (nextRecord k rest) + 1) (at + size) (drop size rest) in
-    let both = andThen-accepted (refuseFault (recordFault k floor (nextRecord k rest)) at) later e in
-    let whole = next-faultless k floor rest (refuseFault-accepted _ at (both .0)) .whole in
-    let more = records-fit k n (slotOf (nextRecord k rest) + 1) (at + size) (drop size rest) (both .1) in
+    let later = recordsVerdict k n (nextRecord k rest ∷ before) (at + size) (drop size rest) in
+    let both = andThen-accepted (refuseFault (recordFault k before (nextRecord k rest)) at) later e in
+    let whole = next-faultless k before rest (refuseFault-accepted _ at (both .0)) .0 .whole in
+    let more = records-fit k n (nextRecord k rest ∷ before) (at + size) (drop size rest) (both .1) in
     omega (arith, suc-mul n size, length-take size rest, length-drop size rest)
 
 pub section-whole : (k at : ℕ) (rest : List ℕ) → sectionVerdict k at rest ≡ Accepted → sectionSize k (getD rest 0 0) ≤ length rest
 section-whole k at rest ok =
-    let fit = records-fit k (getD rest 0 0) 0 (at + 1) (drop 1 rest) (records-accepted k at rest ok) in
+    let fit = records-fit k (getD rest 0 0) [] (at + 1) (drop 1 rest) (records-accepted k at rest ok) in
     let more = counted k at rest ok .0 in
     omega (arith, length-drop 1 rest)
 

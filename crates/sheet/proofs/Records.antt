@@ -12,8 +12,9 @@ use Rattle.records.specs.Sections.{sections, recordSize, sectionSize, slotOf}
 use Rattle.sheet.specs.Reading.{verdict}
 use Rattle.records.specs.Records.{recordAt, recordCount, recordsFrom, recordsIn}
 use Rattle.sheet.specs.Parts.{offsetOf, countOf, sectionOf}
-use Rattle.sheet.specs.Parsed.{joined, Faultless, Ordered, sectionsFrom, parse}
+use Rattle.sheet.specs.Parsed.{joined, Faultless, Ordered, LabelsDiffer, sectionsFrom, parse}
 use Rattle.sheet.proofs.Faults.{with-floor}
+use Rattle.sheet.proofs.Labels.{Fresh, fresh-differ}
 use Rattle.sheet.proofs.Parsed.{joined-length, ordered-read, records-length, accepted-ordered, records-joined}
 use Rattle.sheet.proofs.Reading.{head-drop, accepted-section, unchecked, unchecked-known, records-accepted}
 
@@ -51,12 +52,18 @@ section-parsed s k h =
     head ∙ rw (head-drop s at, drop-drop 1 at s) at two
 
 module _ (s : List ℕ) (k : ℕ) (h : k < sections) (ok : verdict s ≡ Accepted) where
-  pub section-ordered : Ordered k 0 (getD (parse s) k [])
+  section-read : Ordered k 0 (getD (parse s) k []) × Fresh [] (getD (parse s) k [])
   unfolding countOf
-  section-ordered =
+  section-read =
       let at = offsetOf s k in
       let records = rw (head-drop s at, drop-drop 1 at s) at (records-accepted k at (drop at s) (accepted-section s k h ok)) in
-      rw (section-parsed s k h) (accepted-ordered k (countOf s k) 0 (at + 1) (drop (at + 1) s) records)
+      rw (section-parsed s k h) (accepted-ordered k (countOf s k) [] (at + 1) (drop (at + 1) s) records)
+
+  pub section-ordered : Ordered k 0 (getD (parse s) k [])
+  section-ordered = section-read .0
+
+  pub section-differ : LabelsDiffer (getD (parse s) k [])
+  section-differ = fresh-differ (section-read .1)
 
   pub section-joined : sectionOf s k ≡ joined (getD (parse s) k [])
   section-joined =

@@ -12,7 +12,7 @@ use Rattle.records.specs.Sections.{sections, kindOf, mostOf, descriptionSize, s
 use Rattle.sheet.specs.Reading.{recordsVerdict, countVerdict, sectionVerdict, sectionsVerdict, verdict}
 use Rattle.records.specs.Records.{recordAt, recordCount, find, front}
 use Rattle.sheet.specs.Parts.{sectionUnchecked, sectionOf}
-use Rattle.sheet.specs.Parsed.{joined, render, Faultless, WellFormed, Arranged, longestSheet, parse, AcceptedDescription}
+use Rattle.sheet.specs.Parsed.{joined, render, Faultless, LabelsDiffer, WellFormed, Arranged, longestSheet, parse, AcceptedDescription}
 use Rattle.kinds.specs.Table as kinds
 use Rattle.sheet.proofs.Descriptions.{accepted-description}
 use Rattle.sheet.proofs.Examples.{full, full-length, full-accepted}
@@ -21,11 +21,11 @@ use Rattle.sheet.proofs.Longest.{longestFrom, longest, enough-read}
 use Rattle.sheet.proofs.Parsed.{render-accepted, parse-render, accepted-well-formed, accepted-rendered}
 use Rattle.sheet.proofs.Places.{place-within}
 use Rattle.sheet.proofs.Reading.{unchecked, section-unknown, section-refused}
-use Rattle.sheet.proofs.Records.{section-ordered, section-joined, record-of, count-of, record-faultless, slots-rise}
+use Rattle.sheet.proofs.Records.{section-ordered, section-differ, section-joined, record-of, count-of, record-faultless, slots-rise}
 
 -- ---- what a sheet is
 
--- accepted sheets are exactly these [S1, S3, S4, S7]
+-- accepted sheets are exactly these: slots rise and labels are pairwise different [S1, S3, S4, S7]
 pub accepted-iff-arranged : (s : List ℕ) → (verdict s ≡ Accepted) ↔ Arranged s
 accepted-iff-arranged s = (
   λ ok. record { parts = parse s; formed = accepted-well-formed s ok; is = accepted-rendered s ok },
@@ -87,6 +87,10 @@ module _ (s : List ℕ) (k : ℕ) (h : k < sections) (ok : verdict s ≡ Accepte
   -- and the slots of a section rise [S3]
   pub slots-are-rising : (i j : ℕ) → i < j → j < length (getD (parse s) k []) → slotOf (getD (getD (parse s) k []) i []) < slotOf (getD (getD (parse s) k []) j [])
   slots-are-rising = slots-rise (section-ordered s k h ok)
+
+  -- no two labels of a section are the same [S4, F19]
+  pub labels-are-different : LabelsDiffer (getD (parse s) k [])
+  labels-are-different = section-differ s k h ok
 
   -- each record is found by its slot, at whatever place it stands, [G9]
   pub record-found : (i : ℕ) → i < length (getD (parse s) k []) → find (slotOf (getD (getD (parse s) k []) i [])) (getD (parse s) k []) ≡ getD (getD (parse s) k []) i []

@@ -36,10 +36,14 @@ pub data Ordered (k : ℕ) : ℕ → List (List ℕ) → Type 0 where
   done : {floor : ℕ} → Ordered k floor []
   next : {floor : ℕ} {r : List ℕ} {rs : List (List ℕ)} → Faultless k floor r → Ordered k (slotOf r + 1) rs → Ordered k floor (r ∷ rs)
 
--- sections from section k on, each of such records [S1]
+-- no two of these records have the same label [S4]
+abbrev pub LabelsDiffer : List (List ℕ) → Type 0
+LabelsDiffer rs = (i j : ℕ) → i < j → j < length rs → labelOf (getD rs i []) ≡ labelOf (getD rs j []) → ⊥
+
+-- sections from section k on, each of such records, no two with one label [S1, S4]
 pub data Sections : ℕ → List (List (List ℕ)) → Type 0 where
   done : {k : ℕ} → Sections k []
-  next : {k : ℕ} {rs : List (List ℕ)} {ss : List (List (List ℕ))} → Ordered k 0 rs → Sections (k + 1) ss → Sections k (rs ∷ ss)
+  next : {k : ℕ} {rs : List (List ℕ)} {ss : List (List (List ℕ))} → Ordered k 0 rs → LabelsDiffer rs → Sections (k + 1) ss → Sections k (rs ∷ ss)
 
 -- all the sections of a sheet, each of such records [S1, S7]
 pub record WellFormed (p : List (List (List ℕ))) : Type 0 where

@@ -1,14 +1,19 @@
 // The verdict on a sheet: read left to right, the first fault wins.
+ghost use Prim.Native.Nat.{ℕ, _+_, _*_, _≤_};
 ghost use mathlib.Core.Path.{_≡_};
-ghost use mathlib.Core.Bool.{cond};
+ghost use mathlib.Core.Bool.{cond, not};
+ghost use mathlib.Core.List.{List, [], map};
 ghost use lib.Dec.{eqb};
-ghost use lib.ListN.{drop};
+ghost use lib.ListN.{length, drop};
 ghost use Rattle.compare.specs.Within.{allWithin};
-ghost use Rattle.buffer.specs.Verdict.{faultUnless, VerdictNumbered};
-ghost use Rattle.sheet.specs.Reading.{recordFault, recordsVerdict, sectionVerdict, verdict};
+ghost use Rattle.buffer.specs.Verdict.{VerdictNumbered};
+ghost use Rattle.records.specs.Sections.{faultIf, recordSize, labelOf};
+ghost use Rattle.records.specs.Records.{recordsFrom};
+ghost use Rattle.sheet.specs.Reading.{among, leastSlot, recordFault, recordsVerdict, sectionVerdict, verdict};
 use buffer::Verdict;
 use kinds::SECTIONS;
 use kinds::fault;
+use records::LABEL_SIZE;
 use records::description;
 use records::label;
 use records::most;
@@ -16,7 +21,7 @@ use records::record_size;
 use records::section_size;
 use records::slot;
 
-// The refusal numbers of a sheet; 6 to 10 are a description's own. 0 is no fault.
+// The refusal numbers of a sheet; 6 to 10 and 18 are a description's own. 0 is no fault.
 const NO_FAULT: u8 = 0;
 
 const INCOMPLETE: u8 = 1;
@@ -31,17 +36,37 @@ const BAD_LABEL: u8 = 5;
 
 const LEFT_OVER: u8 = 11;
 
+const LABEL_TAKEN: u8 = 19;
+
 // The first and the last byte that a label may have.
 const LABEL_FIRST: u8 = 0x20;
 
 const LABEL_LAST: u8 = 0x7e;
 
-// The fault of a label, 0 if it has none.
-fn label_fault(bytes: &[u8]) -> u8
-    ensures { λ r. ⌜ r ≡ faultUnless (allWithin 0x20 0x7E (now (bytes .entry))) 5 ⌝ }
+// Whether one of the first `count` records of a section, which start at `start`, has this label. Each is compared once.
+fn is_taken(sheet: &[u8], section: usize, start: usize, count: usize, label: &[u8]) -> bool
+    requires { ⌜ start + count * recordSize section ≤ length (now sheet) ⌝ }
+    ensures { λ r. ⌜ r ≡ among (now (label .entry)) (map labelOf (recordsFrom section count (drop start (now (sheet .entry))))) ⌝ }
+{
+    let size = record_size(section);
+    let mut at = start;
+    let mut left = count;
+    while 0 < left {
+        if compare::same_bytes(label, &sheet[at + 1..at + 1 + LABEL_SIZE]) {
+            return true;
+        }
+        at += size;
+        left -= 1;
+    }
+    false
+}
+
+// The fault of a label, 0 if it has none; `taken` says whether an earlier record has it.
+fn label_fault(bytes: &[u8], taken: bool) -> u8
+    ensures { λ r. ⌜ r ≡ faultIf (not (allWithin 0x20 0x7E (now (bytes .entry)))) 5 (faultIf taken 19 0) ⌝ }
 {
     if compare::all_within(LABEL_FIRST, LABEL_LAST, bytes) {
-        NO_FAULT
+        if taken { LABEL_TAKEN } else { NO_FAULT }
     } else {
         BAD_LABEL
     }
@@ -54,9 +79,10 @@ fn first_fault(first: u8, second: u8) -> u8
     if first == NO_FAULT { second } else { first }
 }
 
-// The first fault of a record, 0 if it has none. Its slot has to be at least `floor`.
-fn record_fault(section: usize, floor: usize, bytes: &[u8]) -> u8
-    ensures { λ r. ⌜ r ≡ recordFault section floor (now (bytes .entry)) ⌝ }
+// The first fault of a record, 0 if it has none. Its slot has to be at least `floor`; `taken` says whether an earlier
+// record has its label.
+fn record_fault(section: usize, floor: usize, taken: bool, bytes: &[u8]) -> u8
+    ensures { λ r. ⌜ ((before : List (List ℕ)) → leastSlot before ≡ floor → among (labelOf (now (bytes .entry))) (map labelOf before) ≡ taken → r ≡ recordFault section before (now (bytes .entry))) ⌝ }
 {
     if bytes.len() < record_size(section) {
         return INCOMPLETE;
@@ -68,28 +94,30 @@ fn record_fault(section: usize, floor: usize, bytes: &[u8]) -> u8
     if slot < floor {
         return SLOT_NOT_RISING;
     }
-    let of_label = label_fault(label(bytes));
+    let of_label = label_fault(label(bytes), taken);
     let of_description = fault(section, description(bytes));
     first_fault(of_label, of_description)
 }
 
 // The verdict on `count` records of a section, the first of which starts at `start`.
 fn check_records(sheet: &[u8], section: usize, count: usize, start: usize) -> Verdict
-    ensures { λ r. ⌜ r ≡ recordsVerdict section count 0 start (drop start (now (sheet .entry))) ⌝ }
+    requires { ⌜ start ≤ length (now sheet) ⌝ }
+    ensures { λ r. ⌜ r ≡ recordsVerdict section count [] start (drop start (now (sheet .entry))) ⌝ }
 {
     let size = record_size(section);
     let mut at = start;
     let mut floor: usize = 0;
-    let mut left = count;
-    while 0 < left {
+    let mut done: usize = 0;
+    while done < count {
         let next = peek::prefix(peek::suffix(sheet, at), size);
-        let number = record_fault(section, floor, next);
+        let taken = is_taken(sheet, section, start, done, label(next));
+        let number = record_fault(section, floor, taken, next);
         if number != NO_FAULT {
             return Verdict::Refused(number, at);
         }
         floor = slot(next) as usize + 1;
         at += size;
-        left -= 1;
+        done += 1;
     }
     Verdict::Accepted
 }

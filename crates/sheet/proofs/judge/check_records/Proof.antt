@@ -1,31 +1,33 @@
--- `sheet::check_records` meets its contract. The loop's invariant: the verdict is that on the records that are left.
+-- `sheet::check_records` meets its contract. The loop's invariant: what it knows of the records that it has passed.
 -- Assumes nothing.
 use borrow.Author.Needs.{needs}
 use native.Mathlib.Omega.{arith}
-use Prim.Native.Nat.{ℕ, _+_, _-_}
-use mathlib.Core.Path.{_≡_, _∙_, refl, sym, ap, ap₂}
+use Prim.Native.Nat.{ℕ, _-_}
+use mathlib.Core.List.{List, map}
+use mathlib.Core.Path.{_≡_, _∙_, sym, ap, ap₂}
 use lib.ListN.{take, drop}
 use denote.Ref.{now}
 use Rattle.buffer.specs.declared.Verdict.the-variants.{Refused}
-use Rattle.records.specs.Sections.{recordSize, slotOf}
-use Rattle.sheet.specs.Reading.{recordFault, nextRecord, recordsVerdict}
-use Rattle.sheet.proofs.Reading.{records-end, records-refuse, records-next, next-fits}
+use Rattle.records.specs.Sections.{recordSize, slotOf, labelOf}
+use Rattle.records.specs.Records.{recordsFrom}
+use Rattle.sheet.specs.Reading.{among, recordFault, nextRecord}
+use Rattle.sheet.proofs.Behind.{Behind, behind-start, behind-fits, behind-refuse, next-there, behind-next, behind-end}
 use Rattle.sheet.proofs.judge.check_records.Statement.{statement}
 use Rattle.sheet.proofs.judge.check_records.Tie as tie
 
 abbrev Inv-loop : tie.InvT-loop
-Inv-loop sheet section count start size at₀ floor₀ left₀ at floor left =
-    (size ≡ recordSize section)
-    × (recordsVerdict section count 0 start (drop start sheet) ≡ recordsVerdict section left floor at (drop at sheet))
+Inv-loop sheet section count start size at₀ floor₀ done₀ at floor done =
+    (size ≡ recordSize section) × Behind section count start sheet at floor done
 
 abbrev μ-loop : tie.MeasureT-loop
-μ-loop sheet section count start size at₀ floor₀ left₀ at floor left = left
+μ-loop sheet section count start size at₀ floor₀ done₀ at floor done = count - done
 
 record-size-requires : tie.Need-record-size-requires Inv-loop μ-loop
 record-size-requires c κs = search needs
 
 loop-holds : tie.Need-loop-holds Inv-loop μ-loop
-loop-holds c = (c .record-size .ensures, refl)
+loop-holds c =
+    let a = c .before .before .args in (c .record-size .ensures, behind-start (a .section) (a .count) (a .start) (now (a .sheet)) (c .before .before .pre))
 
 suffix-requires : tie.Need-suffix-requires Inv-loop μ-loop
 suffix-requires c κs = search needs
@@ -33,30 +35,50 @@ suffix-requires c κs = search needs
 prefix-requires : tie.Need-prefix-requires Inv-loop μ-loop
 prefix-requires c κs = search needs
 
+label-requires : tie.Need-label-requires Inv-loop μ-loop
+label-requires c κs = search needs
+
+is-taken-requires : tie.Need-is-taken-requires Inv-loop μ-loop
+is-taken-requires c κs =
+    let l = c .before .before .before .before .loop in
+    let a = c .before .before .before .before .before .before .before .args in
+    behind-fits (a .section) (a .count) (a .start) (now (a .sheet)) (l .at) (l .floor) (l .done) (l .inv .1)
+
 record-fault-requires : tie.Need-record-fault-requires Inv-loop μ-loop
 record-fault-requires c κs = search needs
 
--- the next record, and its fault
+-- the next record, whether its label is taken, and its fault
 next : (c : tie.After-prefix Inv-loop μ-loop)
     → let args = c .before .before .before .before .before .before .args in
     now (c .prefix .result) ≡ nextRecord (args .section) (drop (c .before .before .before .loop .at) (now (args .sheet)))
 next c = c .prefix .ensures ∙ ap₂ take (c .before .before .before .loop .inv .0) (c .before .suffix .ensures)
 
+taken : (c : tie.After-is-taken Inv-loop μ-loop)
+    → among (labelOf (now (c .before .before .prefix .result))) (map labelOf (c .before .before .before .before .before .loop .inv .1 .before)) ≡ c .is-taken .result
+taken c =
+    let b = c .before .before .before .before .before .loop .inv .1 in
+    let a = c .before .before .before .before .before .before .before .before .args in
+    let earlier = map labelOf (recordsFrom (a .section) (c .before .before .before .before .before .loop .done) (drop (a .start) (now (a .sheet)))) in
+    b .labels (labelOf (now (c .before .before .prefix .result)))
+    ∙ sym (c .is-taken .ensures ∙ ap (λ (label : List ℕ). among label earlier) (c .before .label .ensures))
+
 fault : (c : tie.After-record-fault Inv-loop μ-loop)
-    → let loop = c .before .before .before .before .loop in
-    let args = c .before .before .before .before .before .before .before .args in
+    → let loop = c .before .before .before .before .before .before .loop in
+    let args = c .before .before .before .before .before .before .before .before .before .args in
     c .record-fault .result
-    ≡ recordFault (args .section) (loop .floor) (nextRecord (args .section) (drop (loop .at) (now (args .sheet))))
+    ≡ recordFault (args .section) (loop .inv .1 .before) (nextRecord (args .section) (drop (loop .at) (now (args .sheet))))
 fault c =
-    let a = c .before .before .before .before .before .before .before .args in
-    c .record-fault .ensures ∙ ap (recordFault (a .section) (c .before .before .before .before .loop .floor)) (next (c .before))
+    let a = c .before .before .before .before .before .before .before .before .before .args in
+    let b = c .before .before .before .before .before .before .loop .inv .1 in
+    c .record-fault .ensures (b .before) (b .low) (taken (c .before)) ∙ ap (recordFault (a .section) (b .before)) (next (c .before .before .before))
 
 returns : tie.Need-returns Inv-loop μ-loop
 returns c =
     let f = fault (c .before) in
-    let l = c .before .before .before .before .before .loop in
-    let a = c .before .before .before .before .before .before .before .before .args in
-    ap (λ (n : ℕ). Refused n (l .at)) f ∙ sym (records-refuse (a .section) (l .floor) (l .at) (now (a .sheet)) (l .left) (omega arith) (λ z. c .if1 .taken (f ∙ z))) ∙ sym (l .inv .1)
+    let l = c .before .before .before .before .before .before .before .loop in
+    let a = c .before .before .before .before .before .before .before .before .before .before .args in
+    ap (λ (n : ℕ). Refused n (l .at)) f
+    ∙ sym (behind-refuse (a .section) (a .count) (a .start) (now (a .sheet)) (l .at) (l .floor) (l .done) (l .inv .1) (omega arith) (λ z. c .if1 .taken (f ∙ z)))
 
 slot-requires : tie.Need-slot-requires Inv-loop μ-loop
 slot-requires c κs = search needs
@@ -69,31 +91,31 @@ add-floor c = search needs
 
 add-at : tie.Need-add-at Inv-loop μ-loop
 add-at c =
-    let l = c .before .before .before .before .before .before .loop in
-    let a = c .before .before .before .before .before .before .before .before .before .args in
-    omega (arith, next-fits (a .section) (l .floor) (l .at) (now (a .sheet)) (sym (fault (c .before .before)) ∙ c .before .if1 .left))
+    let l = c .before .before .before .before .before .before .before .before .loop in
+    let a = c .before .before .before .before .before .before .before .before .before .before .before .args in
+    let clean = sym (fault (c .before .before)) ∙ c .before .if1 .left in
+    omega (arith, l .inv .0, next-there (a .section) (a .count) (a .start) (now (a .sheet)) (l .at) (l .floor) (l .done) (l .inv .1) (omega arith) clean)
 
-sub-left : tie.Need-sub-left Inv-loop μ-loop
-sub-left c = search needs
+add-done : tie.Need-add-done Inv-loop μ-loop
+add-done c = search needs
 
 loop-less : tie.Need-loop-less Inv-loop μ-loop
 loop-less c = omega arith
 
 loop-again : tie.Need-loop-again Inv-loop μ-loop
 loop-again c =
-    let l = c .before .before .before .before .before .before .loop in
-    let a = c .before .before .before .before .before .before .before .before .before .args in
-    let slot = c .slot .ensures ∙ ap slotOf (next (c .before .before .before)) in
+    let l = c .before .before .before .before .before .before .before .before .loop in
+    let a = c .before .before .before .before .before .before .before .before .before .before .before .args in
     let clean = sym (fault (c .before .before)) ∙ c .before .if1 .left in
-    (l .inv .0, l .inv .1 ∙ records-next (a .section) (l .floor) (l .at) (now (a .sheet)) (l .left) (omega arith) clean ∙ ap₂ (λ (f w : ℕ). recordsVerdict (a .section) (l .left - 1) (f + 1) (l .at + w) (drop (l .at + w) (now (a .sheet)))) (sym slot) (sym (l .inv .0)))
+    let slot = c .slot .ensures ∙ ap slotOf (next (c .before .before .before .before .before)) in
+    let on = behind-next (a .section) (a .count) (a .start) (now (a .sheet)) (l .at) (l .floor) (l .done) (l .inv .1) (omega arith) clean in
+    (l .inv .0, rw (l .inv .0, slot) on)
 
 returns-2 : tie.Need-returns-2 Inv-loop μ-loop
 returns-2 c =
     let l = c .before .loop in
     let a = c .before .before .before .before .args in
-    let rest = drop (l .at) (now (a .sheet)) in
-    let z : l .left ≡ 0 = omega arith in
-    sym (l .inv .1 ∙ ap (λ (n : ℕ). recordsVerdict (a .section) n (l .floor) (l .at) rest) z ∙ records-end (a .section) (l .floor) (l .at) rest)
+    sym (behind-end (a .section) (a .count) (a .start) (now (a .sheet)) (l .at) (l .floor) (l .done) (l .inv .1) (omega arith))
 
 pub check-records-spec : {M : Type 1} → statement M
 check-records-spec =
@@ -105,13 +127,15 @@ check-records-spec =
     loop-holds
     suffix-requires
     prefix-requires
+    label-requires
+    is-taken-requires
     record-fault-requires
     returns
     slot-requires
     cast-floor
     add-floor
     add-at
-    sub-left
+    add-done
     loop-less
     loop-again
     returns-2)

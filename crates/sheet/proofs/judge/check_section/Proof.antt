@@ -2,6 +2,7 @@
 use borrow.Author.Needs.{needs}
 use native.Mathlib.Omega.{arith}
 use Prim.Native.Nat.{ℕ, _+_}
+use mathlib.Core.List.{[]}
 use mathlib.Core.Path.{_∙_, sym, ap}
 use lib.ListN.{drop}
 use denote.Ref.{now}
@@ -40,7 +41,7 @@ returns-3 c =
     let a = c .before .before .before .before .before .before .args in
     let s = now (a .sheet) in
     c .check-records .ensures
-    ∙ ap (λ (n : ℕ). recordsVerdict (a .section) n 0 (a .at + 1) (drop (a .at + 1) s)) (c .before .before .before .byte-at .ensures)
+    ∙ ap (λ (n : ℕ). recordsVerdict (a .section) n [] (a .at + 1) (drop (a .at + 1) s)) (c .before .before .before .byte-at .ensures)
     ∙ sym (section-records (a .section) (a .at) s (omega arith) (omega arith))
 
 pub check-section-spec : {M : Type 1} → statement M

@@ -1,0 +1,90 @@
+-- What the loop of `check_records` knows of the records that it has passed. Assumes nothing.
+use native.Mathlib.Nat.{add-comm, suc-mul, zero-mul, add-zero, sub-zero}
+use native.Mathlib.Numerals.{add-one}
+use native.Mathlib.Omega.{arith}
+use Prim.Native.Nat.{ℕ, suc, _+_, _-_, _*_, _≤_, _<_}
+use mathlib.Core.Bool.{Bool, _||_}
+use mathlib.Core.List.{List, [], _∷_, map}
+use mathlib.Core.Path.{_≡_, refl, sym, ap, ap₂, _∙_}
+use lib.ListN.{length, take, drop}
+use lib.Seq.{drop-drop}
+use Rattle.buffer.specs.declared.Verdict.the-variants.{Accepted, Refused}
+use Rattle.compare.specs.Same.{same}
+use Rattle.records.specs.Sections.{recordSize, slotOf, labelOf}
+use Rattle.records.specs.Records.{recordsFrom}
+use Rattle.sheet.specs.Reading.{among, leastSlot, recordFault, nextRecord, recordsVerdict}
+use Rattle.sheet.proofs.Labels.{among-more}
+use Rattle.sheet.proofs.Reading.{records-end, records-refuse, records-next, next-fits}
+
+-- `done` of `count` records of section k lie behind the cursor `at`; the next slot has to be at least `floor`
+pub record Behind (k count start : ℕ) (s : List ℕ) (at floor done : ℕ) : Type 0 where
+  pub before : List (List ℕ)
+  pub low : leastSlot before ≡ floor
+  pub labels : (label : List ℕ) → among label (map labelOf before) ≡ among label (map labelOf (recordsFrom k done (drop start s)))
+  pub few : done ≤ count
+  pub here : at ≡ start + done * recordSize k
+  pub fits : at ≤ length s
+  pub left : recordsVerdict k count [] start (drop start s) ≡ recordsVerdict k (count - done) before at (drop at s)
+
+module _ (k count start : ℕ) (s : List ℕ) where
+  pub behind-start : start ≤ length s → Behind k count start s start 0 0
+  unfolding recordsFrom
+  behind-start h =
+      record {
+        before = [];
+        low = refl;
+        labels = λ label. refl;
+        few = omega arith;
+        here = omega (arith, zero-mul (recordSize k));
+        fits = h;
+        left = ap (λ (n : ℕ). recordsVerdict k n [] start (drop start s)) (sym (sub-zero count));
+      }
+
+  module _ (at floor done : ℕ) (b : Behind k count start s at floor done) where
+    -- the records behind the cursor are there
+    pub behind-fits : start + done * recordSize k ≤ length s
+    behind-fits = omega (arith, b .here, b .fits)
+
+    pub behind-end : count ≤ done → recordsVerdict k count [] start (drop start s) ≡ Accepted
+    behind-end h =
+        let z : count - done ≡ 0 = omega arith in
+        b .left ∙ ap (λ (n : ℕ). recordsVerdict k n (b .before) at (drop at s)) z ∙ records-end k (b .before) at (drop at s)
+
+    module _ (h : done < count) where
+      pub behind-refuse : (recordFault k (b .before) (nextRecord k (drop at s)) ≡ 0 → ⊥)
+          → recordsVerdict k count [] start (drop start s) ≡ Refused (recordFault k (b .before) (nextRecord k (drop at s))) at
+      behind-refuse n = b .left ∙ records-refuse k (b .before) at s (count - done) (omega arith) n
+
+      module _ (ok : recordFault k (b .before) (nextRecord k (drop at s)) ≡ 0) where
+        pub next-there : at + recordSize k ≤ length s
+        next-there = next-fits k (b .before) at s ok
+
+        -- the next record, by its number
+        numbered : nextRecord k (drop at s) ≡ take (recordSize k) (drop (done * recordSize k) (drop start s))
+        numbered =
+            ap (λ (n : ℕ). take (recordSize k) (drop n s)) (b .here)
+            ∙ ap (take (recordSize k)) (sym (drop-drop (done * recordSize k) start s))
+
+        more-labels : (label : List ℕ)
+            → among label (map labelOf (nextRecord k (drop at s) ∷ b .before)) ≡ among label (map labelOf (recordsFrom k (done + 1) (drop start s)))
+        unfolding among
+        more-labels label =
+            ap₂ (λ (r : List ℕ) (found : Bool). same label (labelOf r) || found) numbered (b .labels label)
+            ∙ sym (among-more label k done (drop start s))
+            ∙ ap (λ (n : ℕ). among label (map labelOf (recordsFrom k n (drop start s)))) (sym (add-one done))
+
+        pub behind-next : Behind k count start s (at + recordSize k) (slotOf (nextRecord k (drop at s)) + 1) (done + 1)
+        behind-next =
+            let m : count - done - 1 ≡ count - (done + 1) = omega arith in
+            record {
+              before = nextRecord k (drop at s) ∷ b .before;
+              low = refl;
+              labels = more-labels;
+              few = omega arith;
+              here = omega (arith, b .here, suc-mul done (recordSize k), ap (λ (n : ℕ). n * recordSize k) (add-one done));
+              fits = next-there;
+              left =
+                  b .left
+                  ∙ records-next k (b .before) at s (count - done) (omega arith) ok
+                  ∙ ap (λ (n : ℕ). recordsVerdict k n (nextRecord k (drop at s) ∷ b .before) (at + recordSize k) (drop (at + recordSize k) s)) m;
+            }
