@@ -1,4 +1,4 @@
-// A walk over a sheet by its counts: which count or record starts at an offset.
+// A walk over a sheet by its counts: which count or record starts at an offset, and which record had a label first.
 ghost use mathlib.Core.Path.{_≡_};
 ghost use Prim.Native.Nat.{_-_, _≤_};
 use records::label;
