@@ -32,7 +32,7 @@ use Rattle.compiler.specs.Sent.{SentAt}
 use Rattle.compiler.specs.Sent as sent
 use Rattle.reader.specs.Judging.{streamVerdict}
 use Rattle.reader.specs.Back.{sheetIn, readBack}
-use Rattle.reader.specs.Blanked.{blanked}
+use Rattle.reader.specs.Relabelled.{relabelled}
 use Rattle.reader.specs.Meaning.{WrittenBySheet}
 use Rattle.reader.proofs.Theorems as reader
 use Rattle.demands.proofs.Sizes.{room-for-every-sheet}
@@ -76,17 +76,17 @@ module _ (sheet : List ℕ) (b : Bytes sheet) (ok : verdict sheet ≡ Accepted) 
       → sent.streamWords sheet STATES i there ≡ wordOf (fromBytes (descriptionOf (sent.recordOf sheet STATES i))) ∷ []
   state-word-has-the-fields = compiler.sheet-state-words sheet b ok i
 
--- what was compiled is read back as the sheet with blank labels and each target cut to its mask [D2.5]
+-- what was compiled is read back as the sheet with the reader's labels and each target cut to its mask [D2.5]
 pub reading-gives-the-sheet : (sheet : List ℕ) → Bytes sheet → verdict sheet ≡ Accepted
-    → readBack (streamOf (parse sheet)) ≡ bytes (render (blanked (parse sheet)))
+    → readBack (streamOf (parse sheet)) ≡ bytes (render (relabelled (parse sheet)))
 reading-gives-the-sheet = reader.round-trip
 
 -- given room for it, that sheet is what stands in the room [D2.5]
 pub reading-writes-the-sheet : (sheet room : List ℕ) (r : Outcome) (room′ : List ℕ) → Bytes sheet → verdict sheet ≡ Accepted
-    → length (render (blanked (parse sheet))) ≤ length room → Delivered (readBack (streamOf (parse sheet))) room r room′
-    → (r ≡ Done (length (render (blanked (parse sheet))))) × (take (length (render (blanked (parse sheet)))) room′ ≡ render (blanked (parse sheet)))
+    → length (render (relabelled (parse sheet))) ≤ length room → Delivered (readBack (streamOf (parse sheet))) room r room′
+    → (r ≡ Done (length (render (relabelled (parse sheet))))) × (take (length (render (relabelled (parse sheet)))) room′ ≡ render (relabelled (parse sheet)))
 reading-writes-the-sheet sheet room r room′ b ok fits d =
-    let back = render (blanked (parse sheet)) in
+    let back = render (relabelled (parse sheet)) in
     let d′ = rw (reader.round-trip sheet b ok) at d in
     (answered back room r room′ fits d′, rw (filled back room r room′ fits d′) (take-append-seam back (drop (length back) room)))
 

@@ -8,6 +8,7 @@ use crate::Finding;
 use crate::Line;
 use kinds::Change;
 use lut::Input;
+use records::slot_digits;
 
 // The hex digits of a sample, which has 32 lines, and of sixteen sources.
 const SAMPLE_DIGITS: usize = 8;
@@ -120,7 +121,7 @@ pub(crate) fn put_line(out: &mut [u8], at: usize, line: Line) -> usize
 {
     let name = kinds::row_of(line.section).name;
     let finding = line.finding;
-    let digits = slot_digits(line.slot);
+    let digits = slot_text(line.slot);
     let at1 = put(out, at, &name);
     let at2 = put(out, at1, &digits);
     put_finding(out, at2, finding)

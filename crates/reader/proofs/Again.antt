@@ -14,19 +14,20 @@ use Rattle.buffer.specs.declared.Verdict.the-variants.{Accepted}
 use Rattle.buffer.proofs.Faults.{andThen-accepted}
 use Rattle.peek.proofs.Numbers.{bytes-nil, bytes-drop}
 use Rattle.command.specs.Reading.{number}
-use Rattle.records.specs.Sections.{sections, mostOf, slotOf}
-use Rattle.sheet.specs.Parsed.{render, Ordered, Sections, WellFormed}
+use Rattle.records.specs.Sections.{sections, mostOf, slotOf, labelOf}
+use Rattle.sheet.specs.Parsed.{render, Ordered, LabelsDiffer, Sections, WellFormed}
 use Rattle.sheet.proofs.Descriptions.{bytes-rendered}
+use Rattle.sheet.proofs.Records as records
 use Rattle.compiler.specs.Items.{addressOf}
 use Rattle.compiler.proofs.Joined.{item, stream-sent}
 use Rattle.compiler.specs.Stream.{streamOf}
 use Rattle.compiler.proofs.Joined.{items, sent}
 use Rattle.kinds.specs.Table.{sectionAt}
 use Rattle.reader.specs.Judging.{itemVerdict, stepSize, rests, itemsVerdict, streamVerdict}
-use Rattle.reader.specs.Back.{recordIn, recordsOf, sectionsOf, sheetIn}
+use Rattle.reader.specs.Back.{labelFor, recordIn, recordsOf, sectionsOf, sheetIn}
 use Rattle.reader.proofs.Sending.{slots-rise, Clear, Ranked, sending-ranked, sent-all}
 use Rattle.reader.proofs.Cutting.{step-known, rests-none, rests-some, by-rests}
-use Rattle.reader.proofs.Items.{item-known, item-rising, item-read}
+use Rattle.reader.proofs.Items.{label-tells, item-known, item-rising, item-read}
 use Rattle.reader.proofs.Trip.{AllBytes}
 
 -- ---- accepted items: their addresses rise, from `low` on
@@ -79,6 +80,33 @@ module _ (k : ℕ) (hk : k < sections) where
             let other = ne-eqb (sectionAt (number s)) k n in
             rw other (rising-ordered more floor (λ slot m g. h slot m (omega arith)))
       ]
+
+  -- each has the reader's label
+  rising-labelled : {low : ℕ} {ss : List (List ℕ)} → Rising low ss → (i : ℕ) → i < length (recordsOf k ss)
+      → labelOf (getD (recordsOf k ss) i []) ≡ labelFor k (slotOf (getD (recordsOf k ss) i []))
+  unfolding recordsOf
+  rising-labelled Rising.done i h = absurd (omega arith)
+  rising-labelled (Rising.next {s = s} {ss = ss} low′ at l e more) i h =
+      elim (ℕ-discrete (sectionAt (number s)) k) [
+        | yes q ↦
+            let mine = eq-eqb (sectionAt (number s)) k q in
+            rw mine (labelled (recordIn s) (recordsOf k ss) (item-read low′ at s e k q .label-is) (rising-labelled more) i (rw mine at h))
+        | no n ↦ let other = ne-eqb (sectionAt (number s)) k n in rw other (rising-labelled more i (rw other at h))
+      ]
+    where
+      labelled : (r : List ℕ) (rs : List (List ℕ)) → labelOf r ≡ labelFor k (slotOf r)
+          → ((i : ℕ) → i < length rs → labelOf (getD rs i []) ≡ labelFor k (slotOf (getD rs i [])))
+          → (i : ℕ) → i < length (r ∷ rs) → labelOf (getD (r ∷ rs) i []) ≡ labelFor k (slotOf (getD (r ∷ rs) i []))
+      labelled r rs here later zero h = here
+      labelled r rs here later (suc i) h = later i (omega arith)
+
+  -- so no two have the same
+  rising-differ : {low : ℕ} {ss : List (List ℕ)} → Rising low ss → Ordered k 0 (recordsOf k ss) → LabelsDiffer (recordsOf k ss)
+  rising-differ {ss = ss} r o i j l h e =
+      let a = rising-labelled r i (omega arith) in
+      let b = rising-labelled r j h in
+      let same = label-tells k (slotOf (getD (recordsOf k ss) i [])) (slotOf (getD (recordsOf k ss) j [])) (sym a ∙ e ∙ b) in
+      omega (arith, records.slots-rise o i j l h)
 
   rising-bytes : {low : ℕ} {ss : List (List ℕ)} → Rising low ss → AllBytes (recordsOf k ss)
   unfolding recordsOf
@@ -199,12 +227,13 @@ read-count ss zero k = refl
 read-count ss (suc n) k = ap suc (read-count ss n (k + 1))
 
 -- sections of such records are well formed
-read-good : (ss : List (List ℕ)) (n k : ℕ) → ((j : ℕ) → j < k + n → Ordered j 0 (recordsOf j ss)) → Sections k (sectionsOf n k ss)
+read-good : (ss : List (List ℕ)) (n k : ℕ) → ((j : ℕ) → j < k + n → Ordered j 0 (recordsOf j ss) × LabelsDiffer (recordsOf j ss))
+    → Sections k (sectionsOf n k ss)
 unfolding sectionsOf
 read-good ss zero k h = Sections.done
-read-good ss (suc n) k h = Sections.next (h k (omega arith)) (read-good ss n (k + 1) (λ j l. h j (omega arith)))
+read-good ss (suc n) k h = Sections.next (h k (omega arith) .0) (h k (omega arith) .1) (read-good ss n (k + 1) (λ j l. h j (omega arith)))
 
-sheet-section : (s : List ℕ) (k : ℕ) → k < sections → getD (sheetIn s) k [] ≡ recordsOf k (rests s)
+pub sheet-section : (s : List ℕ) (k : ℕ) → k < sections → getD (sheetIn s) k [] ≡ recordsOf k (rests s)
 unfolding sheetIn
 sheet-section s k h = section-read (rests s) sections 0 k h ∙ ap (λ (j : ℕ). recordsOf j (rests s)) (zero-add k)
 
@@ -232,10 +261,14 @@ module _ (s : List ℕ) (e : streamVerdict s ≡ Accepted) where
   pub again-ordered : (k : ℕ) → k < sections → Ordered k 0 (recordsOf k (rests s))
   again-ordered k h = rising-ordered k h rising 0 (λ slot m g. zero-le)
 
+  -- under different labels
+  pub again-differ : (k : ℕ) → k < sections → LabelsDiffer (recordsOf k (rests s))
+  again-differ k h = rising-differ k h rising (again-ordered k h)
+
   -- that sheet is well formed
   pub again-well-formed : WellFormed (sheetIn s)
   unfolding sheetIn
-  again-well-formed = record { all = read-count (rests s) sections 0; good = read-good (rests s) sections 0 again-ordered }
+  again-well-formed = record { all = read-count (rests s) sections 0; good = read-good (rests s) sections 0 (λ k h. (again-ordered k h, again-differ k h)) }
 
   -- and consists of bytes
   pub again-bytes : Bytes (render (sheetIn s))

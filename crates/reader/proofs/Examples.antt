@@ -33,9 +33,9 @@ use Rattle.compiler.specs.Items.{addressOf, lengthsOf, sizeOf, itemSize}
 use Rattle.compiler.specs.Chains.{wordsRead}
 use Rattle.kinds.specs.Table.{slotFrom, slotAt, sectionFrom, sectionAt}
 use Rattle.reader.specs.Judging.{descriptionRead, descriptionIn, firstVerdict, chainsVerdict, itemVerdict, stepSize, restsFrom, rests, itemsVerdict, streamVerdict}
-use Rattle.reader.specs.Back.{recordsOf, sectionsOf, sheetIn, readBack}
+use Rattle.reader.specs.Back.{labelFor, recordIn, recordsOf, sectionsOf, sheetIn, readBack}
 use Rattle.reader.proofs.Cutting.{rests-some}
-use Rattle.kinds.specs.Table.{chainCount, chainLength}
+use Rattle.kinds.specs.Table.{TERMS, RANGES, EDGES, SUMS, STATES, letterOf, chainCount, chainLength}
 use Rattle.peek.specs.Fields.{fieldBytes}
 use Rattle.term.specs.Description as term-kind
 use Rattle.range.specs.Description as range-kind
@@ -135,3 +135,19 @@ examples = tt
 pub empty-stream : readBack [] ≡ bytes (replicate 5 0)
 unfolding streamVerdict itemsVerdict rests restsFrom sheetIn sectionsOf recordsOf render joined
 empty-stream = refl
+
+-- the labels of the last slot of each section: T09, R01, E01, S47, Q15, each with five spaces [C7]
+pub labels :
+    (labelFor TERMS 9 ≡ 84 ∷ 48 ∷ 57 ∷ replicate 5 0x20)
+    × (labelFor RANGES 1 ≡ 82 ∷ 48 ∷ 49 ∷ replicate 5 0x20)
+    × (labelFor EDGES 1 ≡ 69 ∷ 48 ∷ 49 ∷ replicate 5 0x20)
+    × (labelFor SUMS 47 ≡ 83 ∷ 52 ∷ 55 ∷ replicate 5 0x20)
+    × (labelFor STATES 15 ≡ 81 ∷ 49 ∷ 53 ∷ replicate 5 0x20)
+unfolding letterOf kindOf
+labels = (refl, refl, refl, refl, refl)
+
+-- a state and a term, and the sheet that they are read as [C7, D2.5]
+pub two-records : readBack (last ++ term)
+    ≡ bytes (1 ∷ 1 ∷ 84 ∷ 48 ∷ 49 ∷ (replicate 5 0x20 ++ (5 ∷ 0 ∷ 0 ∷ 0 ∷ 15 ∷ 0 ∷ 0 ∷ 0 ∷ 0 ∷ 0 ∷ 0 ∷ 1 ∷ 15 ∷ 81 ∷ 49 ∷ 53 ∷ (replicate 5 0x20 ++ replicate 13 0))))
+unfolding term last ends lower upper streamVerdict itemsVerdict rests restsFrom stepSize itemVerdict firstVerdict chainsVerdict descriptionIn descriptionRead term-kind.back range-kind.back edge-kind.back sum-kind.back state-kind.back stateOf bitsFrom fieldBytes wordsRead commandVerdict loadsVerdict wordsIn loads itemSize sizeOf lengthsOf chainCount chainLength addressOf kindOf mostOf sectionAt sectionFrom slotAt slotFrom u32At readTerm partOf linesAfter wordPart nibbleMask trailingZeros tableOf down term-words.termWords term-words.chainWord term-words.nibbleTable same readRange linesWith chainBound fromLines gathered scattered ones range-words.sentWords range-words.chainWords range-words.lowerValue range-words.upperValue covers wishFrom overLines edge-words.pairTable codesOf opCode allWithin recordIn recordsOf sectionsOf sheetIn render joined letterOf
+two-records = refl

@@ -1,13 +1,13 @@
--- Items, there and back: the item of a record without fault is accepted and read as that record blanked, and an
+-- Items, there and back: the item of a record without fault is accepted and read as that record relabelled, and an
 -- accepted item is that of the record it is read as. Assumes nothing.
-use Prim.Native.Nat.{ℕ, _+_, _≤_, _<_, _^_}
+use Prim.Native.Nat.{ℕ, _+_, _/_, _%_, _≤_, _<_, _^_}
 use mathlib.Core.Path.{_≡_, refl, sym, ap, _∙_, subst}
 use mathlib.Core.Bool.{Bool, true, false, _||_, true≢false}
 use mathlib.Core.List.{List, _∷_, _++_}
 use native.Mathlib.Omega.{arith}
-use borrow.Author.Tests.{lt-leb, le-ltb, ne-eqb, leb-false, ltb-false, eqb-false}
+use borrow.Author.Tests.{le-leb, lt-leb, le-ltb, ne-eqb, leb-false, ltb-false, eqb-false}
 use lib.Dec.{eqb, ltb, leb, leb→le, lit<}
-use lib.ListN.{length, take, drop, length-append, length-drop, length-map}
+use lib.ListN.{length, getD, take, drop, length-append, length-drop, length-map}
 use lib.Seq.{take-at, drop-at}
 use Rattle.lines.proofs.Computed.{every-below}
 use Rattle.peek.specs.Bytes.{Bytes}
@@ -21,17 +21,17 @@ use Rattle.command.specs.Command.{selectOp}
 use Rattle.command.specs.Reading.{number, commandVerdict}
 use Rattle.records.specs.Sections.{sections, labelSize, mostOf, descriptionSize, recordSize, descriptionFault, slotOf, labelOf, descriptionOf}
 use Rattle.sheet.specs.Parsed.{Faultless}
-use Rattle.kinds.proofs.Rows.{most-byte}
+use Rattle.kinds.proofs.Rows.{most-byte, letter-plain}
 use Rattle.compiler.specs.Items.{kindOf, addressOf, lengthsOf, chainsOf, itemSize}
 use Rattle.compiler.proofs.Joined.{item}
 use Rattle.compiler.specs.Chains.{wordsRead}
 use Rattle.compiler.proofs.ItemLaws.{chains-lengths, item-length}
 use Rattle.kinds.proofs.Addresses.{address-small, chains-some}
 use Rattle.compiler.proofs.Held as held
-use Rattle.kinds.specs.Table.{slotAt, sectionAt}
+use Rattle.kinds.specs.Table.{letterOf, slotAt, sectionAt}
 use Rattle.reader.specs.Judging.{descriptionIn, firstVerdict, chainsVerdict, itemVerdict, stepSize}
 use Rattle.reader.specs.Back.{labelFor, recordIn}
-use Rattle.reader.specs.Blanked.{cutDescription, blankRecord}
+use Rattle.reader.specs.Relabelled.{cutDescription, relabel}
 use Rattle.kinds.proofs.Places.{slot-fits, slot-address, section-of-slot, slot-of-address}
 use Rattle.reader.proofs.Cutting.{step-known}
 use Rattle.reader.proofs.Ways.{Described, way}
@@ -43,12 +43,30 @@ use Rattle.kinds.specs.Table.{chainCount, chainLength}
 pub label-length : (k slot : ℕ) → length (labelFor k slot) ≡ labelSize
 label-length k slot = refl
 
-pub label-plain : (k slot : ℕ) → allWithin 0x20 0x7E (labelFor k slot) ≡ true
+-- its bytes are allowed
+pub label-plain : (k slot : ℕ) → k < sections → slot < mostOf k → allWithin 0x20 0x7E (labelFor k slot) ≡ true
 unfolding allWithin
-label-plain k slot = refl
+label-plain k slot h fits =
+    let letter = letter-plain k h in
+    let small : slot < 256 = omega (arith, most-byte k) in
+    simp (
+      le-leb 0x20 (letterOf k) (letter .0),
+      le-leb (letterOf k) 0x7E (letter .1),
+      le-leb 0x20 (48 + slot / 10) (omega arith),
+      le-leb (48 + slot / 10) 0x7E (omega arith),
+      le-leb 0x20 (48 + slot % 10) (omega arith),
+      le-leb (48 + slot % 10) 0x7E (omega arith),
+    )
 
-pub label-bytes : (k slot : ℕ) → Bytes (labelFor k slot)
-label-bytes k slot = within-bytes 0x20 0x7E (labelFor k slot) (lit< tt) (label-plain k slot)
+pub label-bytes : (k slot : ℕ) → k < sections → slot < mostOf k → Bytes (labelFor k slot)
+label-bytes k slot h fits = within-bytes 0x20 0x7E (labelFor k slot) (lit< tt) (label-plain k slot h fits)
+
+-- and it tells the slot, so no two slots of a section get one label
+pub label-tells : (k a b : ℕ) → labelFor k a ≡ labelFor k b → a ≡ b
+label-tells k a b e =
+    let tens : 48 + a / 10 ≡ 48 + b / 10 = ap (λ (l : List ℕ). getD l 1 0) e in
+    let ones : 48 + a % 10 ≡ 48 + b % 10 = ap (λ (l : List ℕ). getD l 2 0) e in
+    omega arith
 
 -- a record with such a label
 module _ (k slot : ℕ) (d : List ℕ) where
@@ -112,8 +130,8 @@ module _ (k floor : ℕ) (r rest : List ℕ) (hk : k < sections) (f : Faultless 
   item-description =
       rw (item-section, held.item-read k r rest) (way k hk .back (descriptionOf r) (bytes-drop (1 + labelSize) r b) whole (f .description-fits))
 
-  pub item-record : recordIn (item k r ++ rest) ≡ blankRecord k r
-  unfolding recordIn blankRecord
+  pub item-record : recordIn (item k r ++ rest) ≡ relabel k r
+  unfolding recordIn relabel
   item-record = rw (item-section, item-slot, item-description)
 
   pub item-accepted : (low at : ℕ) → low ≤ addressOf k (slotOf r) → itemVerdict low at (item k r ++ rest) ≡ Accepted
@@ -176,7 +194,7 @@ module _ (low at : ℕ) (s : List ℕ) (e : itemVerdict low at s ≡ Accepted) w
       let k = sectionAt (number s) in
       let slot = slotAt k (number s) in
       bytes-cons slot (labelFor k slot ++ descriptionIn s) (omega (arith, slot-fits (number s) item-known, most-byte k))
-      (bytes-append (labelFor k slot) (descriptionIn s) (label-bytes k slot) (described .are-bytes))
+      (bytes-append (labelFor k slot) (descriptionIn s) (label-bytes k slot item-known (slot-fits (number s) item-known)) (described .are-bytes))
 
   pub record-faultless : (floor : ℕ) → floor ≤ slotAt (sectionAt (number s)) (number s) → Faultless (sectionAt (number s)) floor (recordIn s)
   unfolding recordIn
@@ -187,7 +205,7 @@ module _ (low at : ℕ) (s : List ℕ) (e : itemVerdict low at s ≡ Accepted) w
         whole = made-length k slot (descriptionIn s) (described .whole);
         slot-fits = slot-fits (number s) item-known;
         rising = h;
-        label-fits = ap (allWithin 0x20 0x7E) (made-label k slot (descriptionIn s)) ∙ label-plain k slot;
+        label-fits = ap (allWithin 0x20 0x7E) (made-label k slot (descriptionIn s)) ∙ label-plain k slot item-known (slot-fits (number s) item-known);
         description-fits = ap (descriptionFault k) (made-description k slot (descriptionIn s)) ∙ described .faultless;
       }
 
@@ -203,6 +221,7 @@ module _ (low at : ℕ) (s : List ℕ) (e : itemVerdict low at s ≡ Accepted) w
 
 -- what an accepted item tells of the section that has it
 pub record Read (k : ℕ) (s : List ℕ) : Type 0 where
+  pub label-is : labelOf (recordIn s) ≡ labelFor k (slotOf (recordIn s))
   pub slot-below : slotOf (recordIn s) < mostOf k
   pub address-is : addressOf k (slotOf (recordIn s)) ≡ number s
   pub good : (floor : ℕ) → floor ≤ slotOf (recordIn s) → Faultless k floor (recordIn s)
@@ -215,6 +234,7 @@ unfolding recordIn
 item-read low at s e k q =
     subst (λ (j : ℕ). Read j s) q
     (record {
+      label-is = made-label (sectionAt (number s)) (slotAt (sectionAt (number s)) (number s)) (descriptionIn s);
       slot-below = slot-fits (number s) (item-known low at s e);
       address-is = slot-address (number s) (item-known low at s e);
       good = record-faultless low at s e;

@@ -15,7 +15,7 @@ use Rattle.records.specs.Sections.{recordSize, sectionSize}
 use Rattle.sheet.specs.Parsed.{joined}
 use Rattle.reader.specs.Back.{labelFor}
 use Rattle.reader.specs.Taking.{partSize, countIn, partOf, kept}
-use Rattle.sheet.proofs.Longest.{drop-take}
+use Rattle.records.proofs.Records.{drop-take}
 use Rattle.reader.proofs.Keeping.{record-fits}
 
 -- ---- windows: n elements from s on

@@ -1,12 +1,12 @@
 -- What is promised of reading commands back, each under the rule that asks for it. Assumes nothing.
-use Prim.Native.Nat.{ℕ, _+_, _≤_}
+use Prim.Native.Nat.{ℕ, _+_, _≤_, _<_}
 use mathlib.Core.Path.{_≡_, refl, sym, ap, _∙_, subst}
 use mathlib.Core.Bool.{Bool, true, false, cond}
-use mathlib.Core.List.{List}
+use mathlib.Core.List.{List, []}
 use mathlib.Core.Logic.{_↔_, inl, inr}
 use native.Mathlib.Nat.{le-refl}
 use lib.Dec.{leb}
-use lib.ListN.{length, take, drop}
+use lib.ListN.{length, getD, take, drop}
 use lib.Seq.{take-append-seam}
 use Rattle.peek.specs.Bytes.{Bytes}
 use Rattle.buffer.specs.Room.{bytes, unless, fill, Delivered}
@@ -16,15 +16,18 @@ use Rattle.buffer.specs.declared.Verdict.{Verdict}
 use Rattle.buffer.specs.declared.Verdict.the-variants.{Accepted, Refused}
 use Rattle.buffer.proofs.Faults.{unless-bytes, no-refusal}
 use Rattle.sheet.specs.Reading.{verdict}
-use Rattle.sheet.specs.Parsed.{parse, render}
+use Rattle.compare.specs.Within.{allWithin}
+use Rattle.records.specs.Sections.{sections, mostOf}
+use Rattle.sheet.specs.Parsed.{LabelsDiffer, parse, render}
 use Rattle.sheet.proofs.Parsed.{render-accepted, parse-render, accepted-well-formed}
 use Rattle.compiler.specs.Stream.{streamOf, longestStream, compiled}
 use Rattle.reader.specs.Judging.{streamVerdict}
-use Rattle.reader.specs.Back.{sheetIn, readBack}
-use Rattle.reader.specs.Blanked.{blanked}
+use Rattle.reader.specs.Back.{labelFor, sheetIn, readBack}
+use Rattle.reader.specs.Relabelled.{relabelled}
 use Rattle.reader.specs.Meaning.{WrittenBySheet, ReadSays}
 use Rattle.reader.proofs.Trip.{trip-accepted, trip-sheet, sheet-sound}
-use Rattle.reader.proofs.Again.{again-stream, again-well-formed, again-bytes}
+use Rattle.reader.proofs.Again.{sheet-section, again-stream, again-differ, again-well-formed, again-bytes}
+use Rattle.reader.proofs.Items.{label-plain, label-tells}
 use Rattle.reader.proofs.Enough.{accepted-short, prefix-read}
 
 module _ (sheet : List ℕ) (b : Bytes sheet) (ok : verdict sheet ≡ Accepted) where
@@ -32,12 +35,12 @@ module _ (sheet : List ℕ) (b : Bytes sheet) (ok : verdict sheet ≡ Accepted) 
   pub compiled-accepted : streamVerdict (streamOf (parse sheet)) ≡ Accepted
   compiled-accepted = trip-accepted (parse sheet) (sheet-sound sheet b ok)
 
-  -- they are read as that sheet, with blank labels and each target cut to its mask [D2.5]
-  pub compiled-read : sheetIn (streamOf (parse sheet)) ≡ blanked (parse sheet)
+  -- they are read as that sheet, with the reader's labels and each target cut to its mask [D2.5]
+  pub compiled-read : sheetIn (streamOf (parse sheet)) ≡ relabelled (parse sheet)
   compiled-read = trip-sheet (parse sheet) (sheet-sound sheet b ok) (accepted-well-formed sheet ok .all)
 
   -- the same of what the reader writes [D2.5]
-  pub round-trip : readBack (streamOf (parse sheet)) ≡ bytes (render (blanked (parse sheet)))
+  pub round-trip : readBack (streamOf (parse sheet)) ≡ bytes (render (relabelled (parse sheet)))
   round-trip = rw (compiled-accepted, compiled-read)
 
 module _ (stream : List ℕ) (b : Bytes stream) (ok : streamVerdict stream ≡ Accepted) where
@@ -49,6 +52,17 @@ module _ (stream : List ℕ) (b : Bytes stream) (ok : streamVerdict stream ≡ A
   pub read-compiled : compiled (render (sheetIn stream)) ≡ bytes stream
   read-compiled =
       rw (read-accepted, parse-render (sheetIn stream) (again-well-formed stream ok)) (ap bytes (again-stream stream ok b))
+
+-- the labels that the reader gives: their bytes are allowed, and each slot of a section has its own [C7, S4]
+pub labels-allowed : (k slot : ℕ) → k < sections → slot < mostOf k → allWithin 0x20 0x7E (labelFor k slot) ≡ true
+labels-allowed = label-plain
+
+pub labels-tell-slots : (k a b : ℕ) → labelFor k a ≡ labelFor k b → a ≡ b
+labels-tell-slots = label-tells
+
+-- so no two records that are read of a section have the same label [C7, S4]
+pub read-labels-differ : (stream : List ℕ) → streamVerdict stream ≡ Accepted → (k : ℕ) → k < sections → LabelsDiffer (getD (sheetIn stream) k [])
+read-labels-differ stream ok k h = rw (sheet-section stream k h) (again-differ stream ok k h)
 
 -- a stream is accepted exactly when the compiler writes it for an accepted sheet [D2.6]
 pub accepted-exactly : (stream : List ℕ) → Bytes stream → (streamVerdict stream ≡ Accepted) ↔ WrittenBySheet stream

@@ -1,4 +1,4 @@
--- Compiled and read back: the stream of a sheet is accepted, and read as that sheet blanked. Assumes nothing.
+-- Compiled and read back: the stream of a sheet is accepted, and read as that sheet relabelled. Assumes nothing.
 use Prim.Native.Nat.{ℕ, zero, suc, zero-le, _+_, _≤_, _<_}
 use mathlib.Core.Path.{_≡_, refl, sym, ap, ap₂, _∙_, subst}
 use mathlib.Core.List.{List, [], _∷_, _++_, append-assoc, append-nil, map, List·Memᴰ, List·Memᴰ·head, List·Memᴰ·tail, List·Memᴰ·not-nil, List·Memᴰ·cases-cons}
@@ -26,7 +26,7 @@ use Rattle.compiler.proofs.ItemLaws.{item-length}
 use Rattle.kinds.specs.Table.{sectionAt}
 use Rattle.reader.specs.Judging.{itemVerdict, stepSize, rests, itemsVerdict, streamVerdict}
 use Rattle.reader.specs.Back.{recordsOf, sectionsOf, sheetIn}
-use Rattle.reader.specs.Blanked.{blankRecord, blankedFrom, blanked}
+use Rattle.reader.specs.Relabelled.{relabel, relabelledFrom, relabelled}
 use Rattle.reader.proofs.Sending.{addresses-rise, Clear, Ranked, sending-ranked, sent-all}
 use Rattle.reader.proofs.Cutting.{item-positive, rests-none, rests-some}
 use Rattle.reader.proofs.Items.{item-number, item-section, item-past, item-record, item-accepted}
@@ -69,14 +69,14 @@ module _ (k : ℕ) (hk : k < sections) (rest : List ℕ) where
 
   -- its own records, and none of another section
   section-records : {floor : ℕ} {rs : List (List ℕ)} → Ordered k floor rs → AllBytes rs
-      → recordsOf k (rests (items k rs ++ rest)) ≡ map (blankRecord k) rs ++ recordsOf k (rests rest)
+      → recordsOf k (rests (items k rs ++ rest)) ≡ map (relabel k) rs ++ recordsOf k (rests rest)
   unfolding items recordsOf
   section-records Ordered.done b = refl
   section-records {floor} (Ordered.next {r = r} {rs = rs} f o) b =
       let tail = items k rs ++ rest in
       let mine = eq-eqb (sectionAt (number (item k r ++ tail))) k (item-section k floor r tail hk f (b 0)) in
       rw (append-assoc (item k r) (items k rs) rest, cut k floor r tail hk f (b 0), mine, item-record k floor r tail hk f (b 0))
-      (ap (λ (rs : List (List ℕ)). blankRecord k r ∷ rs) (section-records o (λ i. b (suc i))))
+      (ap (λ (rs : List (List ℕ)). relabel k r ∷ rs) (section-records o (λ i. b (suc i))))
 
   other-records : (j : ℕ) → (k ≡ j → ⊥) → {floor : ℕ} {rs : List (List ℕ)} → Ordered k floor rs → AllBytes rs
       → recordsOf j (rests (items k rs ++ rest)) ≡ recordsOf j (rests rest)
@@ -96,15 +96,15 @@ once (Ranked.next {k = k} hk above more) m =
     let z = above 0 (most-positive k hk) k 0 m (most-positive k hk) in omega arith
 
 -- sections that have these records, one by one
-blank-sections : (ss : List (List ℕ)) (n k : ℕ) (p : List (List (List ℕ))) → length p ≡ n
-    → ((i : ℕ) → i < n → recordsOf (k + i) ss ≡ map (blankRecord (k + i)) (getD p i [])) → sectionsOf n k ss ≡ blankedFrom k p
-unfolding sectionsOf blankedFrom
-blank-sections ss zero k [] l h = refl
-blank-sections ss zero k (rs ∷ p) l h = absurd (omega arith)
-blank-sections ss (suc n) k [] l h = absurd (omega arith)
-blank-sections ss (suc n) k (rs ∷ p) l h =
+relabelled-sections : (ss : List (List ℕ)) (n k : ℕ) (p : List (List (List ℕ))) → length p ≡ n
+    → ((i : ℕ) → i < n → recordsOf (k + i) ss ≡ map (relabel (k + i)) (getD p i [])) → sectionsOf n k ss ≡ relabelledFrom k p
+unfolding sectionsOf relabelledFrom
+relabelled-sections ss zero k [] l h = refl
+relabelled-sections ss zero k (rs ∷ p) l h = absurd (omega arith)
+relabelled-sections ss (suc n) k [] l h = absurd (omega arith)
+relabelled-sections ss (suc n) k (rs ∷ p) l h =
     ap₂ (λ (q : List (List ℕ)) (qs : List (List (List ℕ))). q ∷ qs) (rw add-zero at (h 0 (omega arith)))
-    (blank-sections ss n (k + 1) p (omega arith)
+    (relabelled-sections ss n (k + 1) p (omega arith)
     (λ i m. let e : k + suc i ≡ k + 1 + i = omega arith in rw e at (h (suc i) (omega arith))))
 
 module _ (p : List (List (List ℕ))) (sound : Sound p) where
@@ -124,16 +124,16 @@ module _ (p : List (List (List ℕ))) (sound : Sound p) where
       ∙ sent-none more j (λ m. n (List·Memᴰ·tail m))
 
   sent-records : {order : List ℕ} → Ranked order → (j : ℕ) → List·Memᴰ j order
-      → recordsOf j (rests (sent order p)) ≡ map (blankRecord j) (getD p j [])
+      → recordsOf j (rests (sent order p)) ≡ map (relabel j) (getD p j [])
   unfolding sent
   sent-records Ranked.done j m = absurd (List·Memᴰ·not-nil m)
   sent-records (Ranked.next {k = k} {ks = ks} hk above more) j m =
       elim (ℕ-discrete k j) [
         | yes e ↦
-            subst (λ (i : ℕ). recordsOf i (rests (items k (getD p k []) ++ sent ks p)) ≡ map (blankRecord i) (getD p i [])) e
+            subst (λ (i : ℕ). recordsOf i (rests (items k (getD p k []) ++ sent ks p)) ≡ map (relabel i) (getD p i [])) e
             (section-records k hk (sent ks p) (sound .ordered k hk) (sound .are-bytes k hk)
-            ∙ ap (λ (rs : List (List ℕ)). map (blankRecord k) (getD p k []) ++ rs) (sent-none more k (once (Ranked.next hk above more)))
-            ∙ append-nil (map (blankRecord k) (getD p k [])))
+            ∙ ap (λ (rs : List (List ℕ)). map (relabel k) (getD p k []) ++ rs) (sent-none more k (once (Ranked.next hk above more)))
+            ∙ append-nil (map (relabel k) (getD p k [])))
         | no n ↦
             other-records k hk (sent ks p) j n (sound .ordered k hk) (sound .are-bytes k hk)
             ∙ sent-records more j (⊎-elim (λ e. absurd (n (sym e))) (λ m. m) (List·Memᴰ·cases-cons m))
@@ -144,17 +144,17 @@ module _ (p : List (List (List ℕ))) (sound : Sound p) where
   unfolding streamVerdict
   trip-accepted = rw (stream-sent p) (sent-accepted sending-ranked 0 0 (λ k slot m h. zero-le))
 
-  trip-records : (k : ℕ) → k < sections → recordsOf k (rests (streamOf p)) ≡ map (blankRecord k) (getD p k [])
+  trip-records : (k : ℕ) → k < sections → recordsOf k (rests (streamOf p)) ≡ map (relabel k) (getD p k [])
   trip-records k h = rw (stream-sent p) (sent-records sending-ranked k (sent-all k h))
 
-  -- and read as the sheet blanked
-  pub trip-sheet : length p ≡ sections → sheetIn (streamOf p) ≡ blanked p
-  unfolding sheetIn blanked
+  -- and read as the sheet relabelled
+  pub trip-sheet : length p ≡ sections → sheetIn (streamOf p) ≡ relabelled p
+  unfolding sheetIn relabelled
   trip-sheet all =
-      blank-sections (rests (streamOf p)) sections 0 p all
+      relabelled-sections (rests (streamOf p)) sections 0 p all
       (λ i h.
       let e = zero-add i in
-      ap (λ (k : ℕ). recordsOf k (rests (streamOf p))) e ∙ trip-records i h ∙ ap (λ (k : ℕ). map (blankRecord k) (getD p i [])) (sym e))
+      ap (λ (k : ℕ). recordsOf k (rests (streamOf p))) e ∙ trip-records i h ∙ ap (λ (k : ℕ). map (relabel k) (getD p i [])) (sym e))
 
 -- ---- an accepted sheet
 

@@ -9,7 +9,7 @@ use Rattle.kinds.proofs.Rows.{size-positive}
 use Rattle.kinds.proofs.Ways as ways
 use Rattle.compiler.specs.Items.{chainsOf}
 use Rattle.reader.specs.Judging.{descriptionRead}
-use Rattle.reader.specs.Blanked.{cutDescription}
+use Rattle.reader.specs.Relabelled.{cutDescription}
 
 -- d is a description of section k without fault, and its words are ws
 pub record Described (k : ℕ) (ws d : List ℕ) : Type 0 where

@@ -1,21 +1,21 @@
 -- The sheet that a stream sets up.
-use Prim.Native.Nat.{ℕ, zero, suc, _+_}
+use Prim.Native.Nat.{ℕ, zero, suc, _+_, _-_}
 use mathlib.Core.Bool.{cond}
 use mathlib.Core.List.{List, [], _∷_, _++_}
 use lib.Dec.{eqb}
 use lib.ListN.{replicate}
 use Rattle.buffer.specs.Room.{Reply, unless}
 use Rattle.command.specs.Reading.{number}
-use Rattle.records.specs.Sections.{sections, labelSize}
+use Rattle.records.specs.Sections.{sections, labelSize, slotDigits}
 use Rattle.sheet.specs.Parsed.{render}
-use Rattle.kinds.specs.Table.{sectionAt, slotAt}
+use Rattle.kinds.specs.Table.{letterOf, sectionAt, slotAt}
 use Rattle.reader.specs.Judging.{descriptionIn, rests, streamVerdict}
 
--- the label of each record that is read: eight spaces [C7]
+-- the label of a record that is read: the section's letter, the slot's two digits, and spaces [C7]
 abbrev pub labelFor : (k slot : ℕ) → List ℕ
-labelFor k slot = replicate labelSize 0x20
+labelFor k slot = letterOf k ∷ (slotDigits slot ++ replicate (labelSize - 3) 0x20)
 
--- the record of the item at the start of s: slot, blank label, description [C7]
+-- the record of the item at the start of s: slot, label, description [C7]
 unfoldable pub recordIn : (s : List ℕ) → List ℕ
 recordIn s =
     slotAt (sectionAt (number s)) (number s)

@@ -1,5 +1,5 @@
 pub mod Judging
 pub mod Back
-pub mod Blanked
+pub mod Relabelled
 pub mod Meaning
 pub mod Taking

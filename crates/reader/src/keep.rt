@@ -12,10 +12,9 @@ ghost use Rattle.reader.specs.Back.{labelFor};
 ghost use Rattle.reader.specs.Taking.{partSize, countIn, kept};
 use buffer::Outcome;
 use kinds::SECTIONS;
+use kinds::letter;
 use records::LABEL_SIZE;
-
-// The label that the reader gives.
-const LABEL: [u8; LABEL_SIZE] = [0x20; LABEL_SIZE];
+use records::slot_digits;
 
 // How many bytes each section has in the room.
 pub(crate) const PART: usize = 1024;
@@ -32,6 +31,18 @@ fn size_of(outcome: Outcome) -> usize
     }
 }
 
+// The label that the reader gives: the section's letter, the slot, and spaces.
+fn label_for(section: usize, slot: u8) -> [u8; LABEL_SIZE]
+    ensures { λ r. ⌜ r ≡ labelFor section slot ⌝ }
+{
+    let digits = slot_digits(slot);
+    let mut label = [b' '; LABEL_SIZE];
+    label[0] = letter(section);
+    label[1] = digits[0];
+    label[2] = digits[1];
+    label
+}
+
 // A record of these words, at the start of `out`. Answers the length of its description: 0 for words that no accepted
 // one writes.
 fn put_record(out: &mut [u8], section: usize, slot: u8, words: &[u32]) -> usize
@@ -40,7 +51,8 @@ fn put_record(out: &mut [u8], section: usize, slot: u8, words: &[u32]) -> usize
     ensures { λ r. ⌜ now (out .exit) ≡ fill (slot ∷ (labelFor section slot ++ descriptionRead section (now (words .entry)))) (now (out .entry)) ⌝ }
 {
     out[0] = slot;
-    buffer::put_bytes(&mut out[1..], &LABEL);
+    let label = label_for(section, slot);
+    buffer::put_bytes(&mut out[1..], &label);
     size_of(kinds::put_back(&mut out[1 + LABEL_SIZE..], section, words))
 }
 

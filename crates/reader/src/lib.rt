@@ -15,7 +15,8 @@ mod keep;
 mod walk;
 mod write;
 
-// The sheet that a stream sets up, written at the start of `out`, with blank labels and targets cut to their masks.
+// The sheet that a stream sets up, written at the start of `out`, under the reader's own labels and with targets cut to
+// their masks.
 pub fn read(stream: &[u8], out: &mut [u8]) -> Outcome
     ensures { λ r. ⌜ Delivered (readBack (now (stream .entry))) (now (out .entry)) r (now (out .exit)) ⌝ }
     ensures { λ r. ⌜ ReadSays (now (stream .entry)) r (now (out .exit)) ⌝ }

@@ -14,14 +14,14 @@ use Rattle.notice.proofs.text.put_line.Statement.{statement}
 use Rattle.notice.proofs.text.put_line.Tie as tie
 
 -- the letters are those of the line's section
-name-of : (c : tie.After-slot-digits) → c .before .before .row-of .result .name ≡ nameOf (c .before .before .before .before .args .line .section)
+name-of : (c : tie.After-slot-text) → c .before .before .row-of .result .name ≡ nameOf (c .before .before .before .before .args .line .section)
 name-of c = ap (λ (r : Row). r .name) (c .before .before .row-of .ensures)
 
 row-of-requires : tie.Need-row-of-requires
 row-of-requires c κs = search needs
 
-slot-digits-requires : tie.Need-slot-digits-requires
-slot-digits-requires c κs = search needs
+slot-text-requires : tie.Need-slot-text-requires
+slot-text-requires c κs = search needs
 
 slice-aggregate-put : tie.Need-slice-aggregate-put
 slice-aggregate-put c = search needs
@@ -39,7 +39,7 @@ put-requires-2 c κs =
     let s = c .before .before .before .before .before .before .before .before .before .before .before in
     let w = c .before .before .before .before .put in
     let made = c .before .before .before .before .before .before .before in
-    omega (arith, w .ensures .next, w .kept .0, ap length (name-of made), name-length (s .args .line .section), ap length (made .slot-digits .ensures), render-length (s .args .line), s .pre)
+    omega (arith, w .ensures .next, w .kept .0, ap length (name-of made), name-length (s .args .line .section), ap length (made .slot-text .ensures), render-length (s .args .line), s .pre)
 
 put-finding-requires : tie.Need-put-finding-requires
 put-finding-requires c κs =
@@ -47,7 +47,7 @@ put-finding-requires c κs =
     let w = c .before .before .before .before .before .before .before .before .put in
     let v = c .before .before .before .put2 in
     let made = c .before .before .before .before .before .before .before .before .before .before .before in
-    omega (arith, w .ensures .next, w .kept .0, v .ensures .next, v .kept .0, ap length (name-of made), name-length (s .args .line .section), ap length (made .slot-digits .ensures), render-length (s .args .line), s .pre)
+    omega (arith, w .ensures .next, w .kept .0, v .ensures .next, v .kept .0, ap length (name-of made), name-length (s .args .line .section), ap length (made .slot-text .ensures), render-length (s .args .line), s .pre)
 
 same-length : tie.Need-same-length
 same-length c = search needs
@@ -61,14 +61,14 @@ returns c =
     let h : a .at ≤ length (now (a .out)) = omega (arith, s .pre) in
     let w = wrote-then (a .at) _ _ _ _ _ _ _ h (c .before .before .before .before .before .before .before .before .before .before .before .put .ensures) (c .before .before .before .before .before .before .put2 .ensures) in
     let v = wrote-then (a .at) _ _ _ _ _ _ _ h w (c .before .before .put-finding .ensures) in
-    rw (name-of made, made .slot-digits .ensures) at v
+    rw (name-of made, made .slot-text .ensures) at v
 
 pub put-line-spec : {M : Type 1} → statement M
 put-line-spec =
     tie.close
     (tie.spec
     row-of-requires
-    slot-digits-requires
+    slot-text-requires
     slice-aggregate-put
     put-requires
     slice-aggregate-put-2

@@ -1,7 +1,7 @@
 -- `put_record` meets its contract: slot, label and description are written one behind the other. Assumes nothing.
 use Prim.Native.Nat.{ℕ, _+_, _-_, _≤_}
 use mathlib.Core.List.{List, [], _∷_, _++_, append-nil}
-use mathlib.Core.Path.{refl, sym, _∙_}
+use mathlib.Core.Path.{refl, sym, ap, _∙_}
 use native.Mathlib.Omega.{arith}
 use denote.Ref.{now}
 use borrow.Rule.Slice.PartMut.{putMid}
@@ -26,12 +26,15 @@ after-slot c =
     pending-store _ _ 0 (a .slot ∷ (labelFor k (a .slot) ++ d)) (a .slot) (labelFor k (a .slot) ++ d) (now (a .out)) refl
     (pending-start 0 (a .slot ∷ (labelFor k (a .slot) ++ d)) (now (a .out)) (omega (arith, short, c .before .before .pre .1)))
 
-after-label : (c : tie.After-slice-known2) → let a = c .before .before .before .before .before .before .before .args in let k = a .section in let d = descriptionRead k (now (a .words)) in
+after-label : (c : tie.After-slice-known2) → let a = c .before .before .before .before .before .before .before .before .args in let k = a .section in let d = descriptionRead k (now (a .words)) in
     let out : List ℕ = set (now (a .out)) 0 (a .slot) in
     Pending (now (a .out)) (write 0 (a .slot ∷ (labelFor k (a .slot) ++ d)) (now (a .out))) 9 d (putMid 1 (length out - 1) out (c .before .before .put-bytes .last .0))
 after-label c =
-    let a = c .before .before .before .before .before .before .before .args in
-    pending-step _ _ 1 9 _ (labelFor (a .section) (a .slot)) _ _ _ _ refl refl (after-slot (c .before .before .before .before .before)) (c .before .before .put-bytes .ensures)
+    let a = c .before .before .before .before .before .before .before .before .args in
+    pending-step _ _ 1 9 _ (c .before .before .before .before .before .label-for .result) _ _ _ _ (ap (λ (l : List ℕ). l ++ descriptionRead (a .section) (now (a .words))) (sym (c .before .before .before .before .before .label-for .ensures))) (ap (λ (l : List ℕ). 1 + length l) (sym (c .before .before .before .before .before .label-for .ensures))) (after-slot (c .before .before .before .before .before .before)) (c .before .before .put-bytes .ensures)
+
+label-for-requires : tie.Need-label-for-requires
+label-for-requires c κs = search needs
 
 sub-put-bytes : tie.Need-sub-put-bytes
 sub-put-bytes c = simp length-set (omega arith)
@@ -45,12 +48,12 @@ sub-put-back c = omega (arith, after-label c .room)
 part-put-back-start : tie.Need-part-put-back-start
 part-put-back-start c = omega (arith, after-label c .room)
 
-done : (c : tie.After-size-of) → let a = c .before .before .before .before .before .before .before .before .before .before .before .before .args in let k = a .section in let d = descriptionRead k (now (a .words)) in
+done : (c : tie.After-size-of) → let a = c .before .before .before .before .before .before .before .before .before .before .before .before .before .args in let k = a .section in let d = descriptionRead k (now (a .words)) in
     let first : List ℕ = set (now (a .out)) 0 (a .slot) in
     let out : List ℕ = putMid 1 (length first - 1) first (c .before .before .before .before .before .before .before .put-bytes .last .0) in
     Pending (now (a .out)) (write 0 (a .slot ∷ (labelFor k (a .slot) ++ d)) (now (a .out))) (9 + length d) [] (putMid 9 (length out - 9) out (c .before .before .before .put-back .last .0))
 done c =
-    let a = c .before .before .before .before .before .before .before .before .before .before .before .before .args in
+    let a = c .before .before .before .before .before .before .before .before .before .before .before .before .before .args in
     let d = descriptionRead (a .section) (now (a .words)) in
     pending-step _ _ 9 _ _ d [] _ _ _ (sym (append-nil d)) refl (after-label (c .before .before .before .before .before)) (c .before .before .before .put-back .ensures)
 
@@ -89,6 +92,7 @@ put-record-spec =
     tie.close
     (tie.spec
     slice-write-out
+    label-for-requires
     sub-put-bytes
     part-put-bytes-start
     part-put-bytes-end
