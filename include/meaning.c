@@ -21,6 +21,7 @@ static const char *const meanings[] = {
     [VOLTAMAR_BAD_WORDS] = "words that no accepted description writes",
     [VOLTAMAR_WRONG_COUNT] = "wrong word count (the place is the count needed)",
     [VOLTAMAR_FIELD_TOO_BIG] = "a state's field too big for its place",
+    [VOLTAMAR_SAME_LABEL] = "label the same as an earlier one of its section",
 };
 
 const char *voltamar_meaning(uint8_t number) {

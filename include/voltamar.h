@@ -56,7 +56,8 @@ enum voltamar_refusal {
     VOLTAMAR_BAD_ADDRESS = 15,      /* unknown, not rising, or not the one due */
     VOLTAMAR_BAD_WORDS = 16,        /* words that no accepted description writes */
     VOLTAMAR_WRONG_COUNT = 17,      /* *place is the words needed */
-    VOLTAMAR_FIELD_TOO_BIG = 18     /* a state's number above FFFFF hex, else state above 15, or flag above 1 */
+    VOLTAMAR_FIELD_TOO_BIG = 18,    /* a state's number above FFFFF hex, else state above 15, or flag above 1 */
+    VOLTAMAR_SAME_LABEL = 19        /* as an earlier record of its section: all eight bytes the same */
 };
 
 /* What a number means, in a few words of English that last for ever; "done" for 0, and "not a refusal's number" for one that is none.
@@ -65,7 +66,8 @@ const char *voltamar_meaning(uint8_t number);
 
 /* ---- sheets and streams */
 
-/* Judges a sheet. Accepted: 0, and *place is 0. Refused: 1 to 11 or 18, the first fault from the left. */
+/* Judges a sheet. Accepted: 0, and *place is 0. Refused: 1 to 11, 18 or 19, the first fault from the left; within a
+ * record in the order 1, 3, 4, 5, 19, 6 to 10, 18. */
 uint8_t voltamar_check(const uint8_t *sheet, size_t n, size_t *place);
 
 /* Where the records of one section lie in the sheet, without their count: sheet[*start] is the first byte, *length says how many.
@@ -77,9 +79,10 @@ uint8_t voltamar_section(const uint8_t *sheet, size_t n, uint8_t number, size_t 
  * Refused: the sheet's refusal, or 12. */
 uint8_t voltamar_compile(const uint8_t *sheet, size_t n, uint8_t *out, size_t room, size_t *place);
 
-/* Writes to out the sheet that the command stream sets up, with labels of eight spaces and targets cut to their masks. Done: 0, and
- * *place is its length. Refused: 13 to 16, the first fault from the left, or 12. Done exactly if some accepted sheet
- * compiles to the stream; of no bytes the sheet is five zeros. */
+/* Writes to out the sheet that the command stream sets up, with targets cut to their masks. A label is the letter of its
+ * section, T, R, E, S or Q (terms, ranges, edges, sums, states), the slot in two decimal digits, and five spaces. Done: 0,
+ * and *place is the sheet's length. Refused: 13 to 16, the first fault from the left, or 12. Done exactly if some
+ * accepted sheet compiles to the stream; of no bytes the sheet is five zeros. */
 uint8_t voltamar_read(const uint8_t *stream, size_t n, uint8_t *out, size_t room, size_t *place);
 
 /* Writes the alteration notice of two sheets to out. Done: 0, *which is 0, and *place is the notice's length. Refused: the old

@@ -240,8 +240,22 @@ static void put_number(uint32_t n)
         put_byte(n & 0xFF);
 }
 
+/* the labels of the section that is being put, each of them another */
+static uint8_t labels[SUMS][8];
+static int labels_put;
+
+static void put_count(int count)
+{
+    labels_put = 0;
+    put_byte((uint32_t)count);
+}
+
 static void put_head(int slot, const uint8_t *label)
 {
+    for (int i = 0; i < labels_put; i++)
+        if (memcmp(labels[i], label, 8) == 0)
+            fail("a label that its section has already");
+    memcpy(labels[labels_put++], label, 8);
     put_byte((uint32_t)slot);
     for (int i = 0; i < 8; i++)
         put_byte(label[i]);
@@ -269,33 +283,33 @@ static void put_state(const struct state *t)
 static void make_sheet(const struct setup *s)
 {
     sheet_length = 0;
-    put_byte((uint32_t)s->terms);
+    put_count(s->terms);
     for (const struct term *t = s->term; t < s->term + s->terms; t++) {
         put_head(t->slot, t->label);
         put_number(t->target);
         put_number(t->mask);
     }
-    put_byte((uint32_t)s->ranges);
+    put_count(s->ranges);
     for (const struct range *r = s->range; r < s->range + s->ranges; r++) {
         put_head(r->slot, r->label);
         put_number(r->lower);
         put_number(r->upper);
         put_number(r->mask);
     }
-    put_byte((uint32_t)s->edges);
+    put_count(s->edges);
     for (const struct edge *e = s->edge; e < s->edge + s->edges; e++) {
         put_head(e->slot, e->label);
         put_number(e->rise);
         put_number(e->fall);
         put_number(e->neither);
     }
-    put_byte((uint32_t)s->sums);
+    put_count(s->sums);
     for (const struct sum *m = s->sum; m < s->sum + s->sums; m++) {
         put_head(m->slot, m->label);
         for (int p = 0; p < 11; p++)
             put_byte(m->op[p]);
     }
-    put_byte((uint32_t)s->states);
+    put_count(s->states);
     for (const struct state *t = s->state; t < s->state + s->states; t++)
         put_state(t);
 }
@@ -530,29 +544,37 @@ static void deed_cases(void)
     }
 }
 
-/* Every slot taken, every label of the given byte; the masks all of the given value. */
+/* Eight times the given byte for the first record of a section; for each later one that with one byte changed. */
+static void set_label(uint8_t *label, uint8_t byte, int record)
+{
+    int place = (record + 7) % 8, change = (record + 7) / 8;
+    memset(label, byte, 8);
+    label[place] = (uint8_t)(byte == 0x7E ? byte - change : byte + change);
+}
+
+/* Every slot taken, every label about the given byte, the same in each section; the masks all of the given value. */
 static void full_case(uint8_t label, uint32_t mask)
 {
     struct setup s = nothing;
     for (int i = 0; i < TERMS; i++) {
         add_term(&s, i, 0x01234567u * (uint32_t)(i + 1), mask);
-        memset(s.term[i].label, label, 8);
+        set_label(s.term[i].label, label, i);
     }
     for (int i = 0; i < RANGES; i++) {
         add_range(&s, i, 1, 0xFFFFFFFF - (uint32_t)i, 0xFFFFFFFF);
-        memset(s.range[i].label, label, 8);
+        set_label(s.range[i].label, label, i);
     }
     for (int i = 0; i < EDGES; i++) {
         add_edge(&s, i, mask, mask, ~mask);
-        memset(s.edge[i].label, label, 8);
+        set_label(s.edge[i].label, label, i);
     }
     for (int i = 0; i < SUMS; i++) {
         add_sum(&s, i, (uint32_t)i, (uint32_t)i / 10);
-        memset(s.sum[i].label, label, 8);
+        set_label(s.sum[i].label, label, i);
     }
     for (int i = 0; i < STATES; i++) {
         next_state(&s, conduct(mask & 0xFFFFF, i, (int)((mask + (uint32_t)i) & 0xFF)));
-        memset(s.state[i].label, label, 8);
+        set_label(s.state[i].label, label, i);
     }
     write_case(&s);
 }
@@ -577,6 +599,39 @@ static void random_case(uint32_t taken)
         if (random_below(4) < taken)
             add_random_state(&s, i);
     write_case(&s);
+}
+
+/* Two records in each section, which have these two labels. */
+static void two_labels(const char *first, const char *second)
+{
+    struct setup s = nothing;
+    for (int i = 0; i < 2; i++) {
+        const char *label = i == 0 ? first : second;
+        add_random_term(&s, i);
+        add_random_range(&s, i);
+        add_random_edge(&s, i);
+        add_random_sum(&s, i);
+        add_random_state(&s, i);
+        memcpy(s.term[i].label, label, 8);
+        memcpy(s.range[i].label, label, 8);
+        memcpy(s.edge[i].label, label, 8);
+        memcpy(s.sum[i].label, label, 8);
+        memcpy(s.state[i].label, label, 8);
+    }
+    write_case(&s);
+}
+
+/* Labels that differ in one byte alone, each of the eight in turn; in their padding; a blank one, first and last. */
+static void label_cases(void)
+{
+    for (int place = 0; place < 8; place++) {
+        char other[9] = "DOORLOCK";
+        other[place] = '-';
+        two_labels("DOORLOCK", other);
+    }
+    two_labels("AB      ", "AB     .");
+    two_labels("        ", "       !");
+    two_labels("BLANK   ", "        ");
 }
 
 int main(int count, char **names)
@@ -607,6 +662,7 @@ int main(int count, char **names)
         random_case(3);
     for (int i = 0; i < 40; i++)
         random_case(4);
+    label_cases();
     write_length(END_MARK);
 
     if (fclose(file) != 0)

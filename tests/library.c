@@ -112,10 +112,10 @@ static void states(void) {
 
     uint8_t back[27];
     memcpy(back, sheet, 27);
-    memset(back + 6, ' ', 8);
+    memcpy(back + 6, "Q15     ", 8);
     clear();
     expect(voltamar_read(commands, 10, out, SPACE, &place) == 0 && place == 27, "states: length of the sheet");
-    expect(holds(out, back, 27), "states: the sheet, with a blank label");
+    expect(holds(out, back, 27), "states: the sheet, with its section's letter and its slot for a label");
 
     const char *text = "STAT 15 NAME\nSTAT 15 ALTR\n";
     back[26] = 1; /* last */
@@ -130,6 +130,48 @@ static void states(void) {
         sheet[field] = good;
     }
     expect(voltamar_check(sheet, 27, &place) == 0 && place == 0, "states: accepted");
+}
+
+/* Two sums, each with the label of eight bytes: the second one begins at 24. */
+static uint8_t two_sums(const char *first, const char *second, size_t *place) {
+    uint8_t sheet[45] = {0, 0, 0, 2};
+    memcpy(sheet + 5, first, 8);
+    sheet[24] = 47;
+    memcpy(sheet + 25, second, 8);
+    return voltamar_check(sheet, 45, place);
+}
+
+static void labels(void) {
+    size_t place = 99, length = 99;
+    uint8_t which = 99;
+    expect(two_sums("S0 LOCK ", "S0 LOCK ", &place) == VOLTAMAR_SAME_LABEL && place == 24, "labels: 19");
+    expect(two_sums("        ", "        ", &place) == 19 && place == 24, "labels: blank twice");
+    expect(two_sums("S0 LOCK ", "        ", &place) == 0 && place == 0, "labels: blank once");
+    expect(two_sums("AB      ", "AB     .", &place) == 0 && two_sums("AB      ", ".B      ", &place) == 0, "labels: all bytes count");
+
+    /* the last term of the lift, which begins at 137, gets the first one's label: then no call takes the sheet */
+    uint8_t sheet[SPACE];
+    memcpy(sheet, lift, SPACE);
+    memcpy(sheet + 138, sheet + 2, 8);
+    clear();
+    expect(voltamar_check(sheet, lift_length, &place) == 19 && place == 137, "labels: not only the record before");
+    sheet[137] = 7;
+    expect(voltamar_check(sheet, lift_length, &place) == 4 && place == 137, "labels: 4 comes before 19");
+    sheet[137] = 9;
+    expect(voltamar_section(sheet, lift_length, 1, &place, &length) == 19 && place == 0 && length == 0, "labels: section");
+    expect(voltamar_compile(sheet, lift_length, out, SPACE, &place) == 19 && place == 137, "labels: compile");
+    expect(voltamar_notice(lift, lift_length, sheet, lift_length, out, SPACE, &which, &place) == 19 && which == 2 && place == 137,
+           "labels: notice");
+    expect(holds(out, NULL, 0), "labels: refusals write nothing");
+    /* a range may have the label of a term */
+    memcpy(sheet, lift, SPACE);
+    memcpy(sheet + 156, sheet + 2, 8);
+    expect(voltamar_check(sheet, lift_length, &place) == 0 && place == 0, "labels: of another section");
+    /* the states begin at 482: the last one gets the second one's label, and a flag that is 2 */
+    sheet[569] = 2;
+    expect(voltamar_check(sheet, lift_length, &place) == 18 && place == 548, "labels: another label, 18");
+    memcpy(sheet + 549, sheet + 505, 8);
+    expect(voltamar_check(sheet, lift_length, &place) == 19 && place == 548, "labels: 19 comes before 18");
 }
 
 static void notices(void) {
@@ -192,7 +234,7 @@ static void meanings(void) {
     expect(strcmp(voltamar_meaning(VOLTAMAR_LOWER_ZERO), "lower bound is 0") == 0, "meaning: a refusal");
     for (int number = 0; number < 256; number++) {
         int is_none = strcmp(voltamar_meaning((uint8_t)number), "not a refusal's number") == 0;
-        expect(is_none == (number > VOLTAMAR_FIELD_TOO_BIG), "meaning: every number");
+        expect(is_none == (number > VOLTAMAR_SAME_LABEL), "meaning: every number");
     }
     expect(sizeof VOLTAMAR_VERSION > 1, "version");
 }
@@ -205,6 +247,7 @@ int main(void) {
     check_and_section();
     compile_and_read();
     states();
+    labels();
     notices();
     model();
     rules();

@@ -32,7 +32,8 @@ fn main() {
         std::process::exit(2);
     }
     let mut random = Random(1);
-    // sheets from half full to full, where all sixteen states are there too; the second of each pair is near the first
+    // sheets from half full to full, where all sixteen states are there too; the labels of a section all differ, some in
+    // one byte alone; the second of each pair is near the first
     let pairs: Vec<(Vec<u8>, Vec<u8>)> = (0..1000)
         .map(|n| {
             let setup = Setup::random(&mut random, 4 + n % 5);

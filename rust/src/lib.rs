@@ -48,6 +48,7 @@ impl Refusal {
             16 => "words that no accepted description writes",
             17 => "wrong word count (the place is the count needed)",
             18 => "a state's field too big for its place",
+            19 => "label the same as an earlier one of its section",
             _ => "not a refusal's number",
         }
     }
@@ -172,10 +173,13 @@ pub fn compile(sheet: &[u8], out: &mut [u8]) -> Result<usize, Refusal> {
     answer(number, place, place)
 }
 
-/// Writes the sheet that a command stream sets up to the start of `out` and answers its length.
+/// Writes the sheet that a command stream sets up to the start of `out` and answers its length. Targets are cut to
+/// their masks. A label is the letter of its section (T, R, E, S, Q), the slot in two digits, and five spaces.
 ///
 /// ```
 /// let mut out = [0; voltamar::LONGEST_SHEET];
+/// assert_eq!(voltamar::read(&[0x9E, 15, 0, 0, 0, 0x9F, 1, 0, 0, 0], &mut out), Ok(27)); // a state in slot 15
+/// assert_eq!(out[4..18], *b"\x01\x0FQ15     \x01\x00\x00\x00");
 /// assert_eq!(voltamar::read(&[], &mut out), Ok(5)); // an empty stream gives five zero bytes
 /// assert_eq!(voltamar::read(&[0x9F, 0, 0, 0, 0], &mut out), Err(voltamar::Refusal { number: 14, place: 0 }));
 /// ```

@@ -68,8 +68,8 @@ fn notice_agrees() {
     }
     for tally in [proved_tally, plain_tally] {
         tally[0].expect(&[12..=12], PAIRS / 5, PAIRS / 10);
-        tally[1].expect(&[1..=11, 18..=18], 0, PAIRS / 20_000);
-        tally[2].expect(&[1..=11, 18..=18], 0, PAIRS / 20_000);
+        tally[1].expect(&[1..=11, 18..=19], 0, PAIRS / 20_000);
+        tally[2].expect(&[1..=11, 18..=19], 0, PAIRS / 20_000);
     }
 }
 

@@ -15,12 +15,19 @@ fn refusals_are_errors() {
     // a state whose else state is 16
     let sheet = b"\0\0\0\0\x01\0STATE   \x01\0\0\0\x10\0\0\0\0\0\0\0\0";
     assert_eq!(judged(sheet).unwrap_err().to_string(), "refused 18 at 5: a state's field too big for its place");
+    // two terms with one label
+    let term = |slot, label: &[u8; 8]| [&[slot][..], label, &[0; 8]].concat();
+    let sheet = |label| [&[2][..], &term(0, b"DOORLOCK"), &term(1, label), &[0; 4]].concat();
+    let same = "refused 19 at 18: label the same as an earlier one of its section";
+    assert_eq!(judged(&sheet(b"DOORLOCK")).unwrap_err().to_string(), same);
+    assert_eq!(check(&sheet(b"DOORLOC ")), Ok(()));
+    assert_eq!(notice(&[0; 5], &sheet(b"DOORLOCK"), &mut []).unwrap_err().to_string(), format!("new sheet: {same}"));
 }
 
 #[test]
 fn every_number_has_a_meaning() {
-    for number in 1..=18 {
+    for number in 1..=19 {
         assert_ne!(Refusal { number, place: 0 }.meaning(), "not a refusal's number");
     }
-    assert_eq!(Refusal { number: 19, place: 0 }.meaning(), "not a refusal's number");
+    assert_eq!(Refusal { number: 20, place: 0 }.meaning(), "not a refusal's number");
 }

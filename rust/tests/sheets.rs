@@ -54,8 +54,8 @@ fn check_and_section_agree() {
             assert_eq!(part, got.map(|()| &sheet[want.1..][..want.2]));
         }
     }
-    proved.expect(&[1..=11, 18..=18], SHEETS / 5, SHEETS / 1000);
-    plain.expect(&[1..=11, 18..=18], SHEETS / 5, SHEETS / 1000);
+    proved.expect(&[1..=11, 18..=19], SHEETS / 5, SHEETS / 1000);
+    plain.expect(&[1..=11, 18..=19], SHEETS / 5, SHEETS / 1000);
 }
 
 #[test]
@@ -75,6 +75,30 @@ fn compile_agrees() {
         proved.count(number(&got));
         plain.count(number(&want));
     }
-    proved.expect(&[1..=12, 18..=18], SHEETS / 10, SHEETS / 1000);
-    plain.expect(&[1..=12, 18..=18], SHEETS / 10, SHEETS / 1000);
+    proved.expect(&[1..=12, 18..=19], SHEETS / 10, SHEETS / 1000);
+    plain.expect(&[1..=12, 18..=19], SHEETS / 10, SHEETS / 1000);
+}
+
+/// Any two records of a full section with one label, and then with labels that differ in one byte.
+#[test]
+fn every_two_labels_agree() {
+    let mut random = Random(0xC2B2_AE3D_27D4_EB4F);
+    let setup = Setup::random(&mut random, 8);
+    for (section, size) in plain::SIZE.into_iter().enumerate() {
+        for later in 0..setup.sections[section].len() {
+            for earlier in 0..later {
+                let mut setup = setup.clone();
+                let label = setup.sections[section][earlier][1..9].to_vec();
+                setup.sections[section][later][1..9].copy_from_slice(&label);
+                let place = setup.count_at(section) + 1 + later * size;
+                let mut sheet = setup.sheet();
+                assert_eq!(voltamar::check(&sheet).map_err(pair), Err((19, place)), "sheet {sheet:02X?}");
+                assert_eq!(plain::check(&sheet).map_err(plain_pair), Err((19, place)), "sheet {sheet:02X?}");
+                let byte = &mut sheet[place + 1 + random.below(8)];
+                *byte = if *byte == 0x7E { 0x7D } else { *byte + 1 };
+                let want = plain::check(&sheet).map_err(plain_pair);
+                assert_eq!(voltamar::check(&sheet).map_err(pair), want, "sheet {sheet:02X?}");
+            }
+        }
+    }
 }

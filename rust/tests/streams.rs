@@ -35,13 +35,7 @@ fn read_agrees() {
     plain.expect(&[12..=16], STREAMS / 10, STREAMS / 50);
 }
 
-/// The states of an accepted sheet without their labels.
-fn states(sheet: &[u8]) -> Vec<(u8, &[u8])> {
-    let part = voltamar::section(sheet, 4).expect("accepted");
-    part.chunks_exact(plain::SIZE[4]).map(|state| (state[0], &state[9..])).collect()
-}
-
-/// Sheet to commands and back, all by the proved library.
+/// Sheet to commands and back, all by the proved library: labels of section and slot, which make an accepted sheet.
 #[test]
 fn reading_back_gives_the_sheet() {
     let mut random = Random(0x94D0_49BB_1331_11EB);
@@ -52,7 +46,7 @@ fn reading_back_gives_the_sheet() {
         let length = voltamar::compile(&sheet, &mut commands).expect("accepted, with room");
         let mut back = vec![0; sheet.len()];
         assert_eq!(voltamar::read(&commands[..length], &mut back), Ok(sheet.len()));
-        assert_eq!(states(&back), states(&sheet), "sheet {sheet:02X?}");
+        assert!(back == make::read_back(&sheet), "sheet {sheet:02X?}");
         let mut again = [0; voltamar::LONGEST_STREAM];
         assert_eq!(voltamar::compile(&back, &mut again), Ok(length));
         assert!(commands == again, "sheet {sheet:02X?}");

@@ -3,20 +3,26 @@
 use Prim.Native.Nat.{ℕ, _-_}
 use mathlib.Core.Bool.{Bool, true, _&&_}
 use mathlib.Core.List.{List, [], _∷_, _++_}
-use lib.Count.{trailingZeros}
+use lib.Count.{ones, trailingZeros}
 use lib.Dec.{T}
 use lib.ListN.{replicate}
 use Rattle.peek.specs.Bytes.{u32At}
 use Rattle.lines.specs.Line.{flipLine}
 use Rattle.lines.specs.Gather.{gathered, scattered, dropLowest}
 use Rattle.compare.specs.Same.{same}
-use Rattle.records.specs.Sections.{sections, fieldBytes, kindOf, mostOf, descriptionSize}
+use Rattle.compare.specs.Within.{allWithin}
+use Rattle.buffer.specs.Verdict.{isAccepted}
+use Rattle.records.specs.Sections.{sections, fieldBytes, kindOf, mostOf, descriptionSize, descriptionFault}
 use Rattle.records.specs.Records.{recordsFrom, find}
+use Rattle.sheet.specs.Reading.{among, recordFault, recordsVerdict, countVerdict, sectionVerdict, sectionsVerdict, verdict}
 use Rattle.sheet.specs.Parsed.{joined, render, sectionsFrom, parse}
 use Rattle.kinds.specs.Table.{nameOf, changeOf}
 use Rattle.term.specs.Description as term-kind
 use Rattle.term.specs.Telling.{termTelling}
-use Rattle.range.specs.Rule.{rangeHit}
+use Rattle.range.specs.Description as range-kind
+use Rattle.range.specs.Rule.{rangeFault, rangeHit}
+use Rattle.sum.specs.Description as sum-kind
+use Rattle.state.specs.Description as state-kind
 use Rattle.range_telling.specs.Description as range-telling-kind
 use Rattle.range_telling.specs.Reduce.{reduceFrom, reduceOf}
 use Rattle.range_telling.specs.Telling.{turnValue, turnSample, tellLine, firstDiffer, tellMasks, tellBounds, tellReduced, rangeTelling}
@@ -115,16 +121,18 @@ pairs =
     (line RANG (48 ∷ 48 ∷ []) WORD)
     -- states, behind the sums: number 0 against number 1 (ALTR and nothing behind it), a label, one gone, one new
     ∷ pair
-    (programmeOf ((47 ∷ (left ++ replicate 11 0)) ∷ []) (stateOf 0 left 0 ∷ stateOf 1 left 7 ∷ stateOf 14 left 1 ∷ []))
-    (programmeOf [] (stateOf 0 left 1 ∷ stateOf 1 right 7 ∷ stateOf 15 left 1 ∷ []))
+    (programmeOf ((47 ∷ (left ++ replicate 11 0)) ∷ []) (stateOf 0 left 0 ∷ stateOf 1 doorlock 7 ∷ stateOf 14 right 1 ∷ []))
+    (programmeOf [] (stateOf 0 left 1 ∷ stateOf 1 doorlk 7 ∷ stateOf 15 right 1 ∷ []))
     (line SUMS (52 ∷ 55 ∷ []) GONE ++ line STAT (48 ∷ 48 ∷ []) ALTR ++ line STAT (48 ∷ 49 ∷ []) NAME
     ++ line STAT (49 ∷ 52 ∷ []) GONE ++ line STAT (49 ∷ 53 ∷ []) NEW)
     ∷ []
 
+-- both sheets are accepted, and that is the notice
 pub allGive : List Pair → Bool
 allGive [] = true
-allGive (p ∷ ps) = same (noticeText (p .old) (p .new)) (p .text) && allGive ps
+allGive (p ∷ ps) =
+    isAccepted (verdict (p .old)) && isAccepted (verdict (p .new)) && same (noticeText (p .old) (p .new)) (p .text) && allGive ps
 
 pub notices-hold : T (allGive pairs)
-unfolding allGive pairs pair sheetOf programmeOf recordOf stateOf doorlock doorlk left right line TERM RANG SUMS STAT NAME NEW GONE WORD ALTR ALTR4 fieldBytes render joined parse sectionsFrom recordsFrom kindOf descriptionSize mostOf find same u32At noticeText noticeLines sectionsLines linesFrom slotLines sharedLines nameOf changeOf term-kind.telling range-telling-kind.telling text.render text.renderAll termTelling trailingZeros rangeTelling tellReduced tellBounds tellMasks firstDiffer tellLine turnSample turnValue reduceOf reduceFrom gathered scattered dropLowest flipLine rangeHit
+unfolding allGive pairs pair sheetOf programmeOf recordOf stateOf doorlock doorlk left right line TERM RANG SUMS STAT NAME NEW GONE WORD ALTR ALTR4 fieldBytes render joined parse sectionsFrom recordsFrom kindOf descriptionSize mostOf find same u32At noticeText noticeLines sectionsLines linesFrom slotLines sharedLines nameOf changeOf term-kind.telling range-telling-kind.telling text.render text.renderAll termTelling trailingZeros rangeTelling tellReduced tellBounds tellMasks firstDiffer tellLine turnSample turnValue reduceOf reduceFrom gathered scattered dropLowest flipLine rangeHit among allWithin descriptionFault term-kind.fault range-kind.fault sum-kind.fault state-kind.fault rangeFault ones recordFault recordsVerdict countVerdict sectionVerdict sectionsVerdict verdict
 notices-hold = tt

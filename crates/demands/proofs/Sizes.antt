@@ -17,7 +17,7 @@ use Rattle.lines.specs.Line.{flipLine, overLines}
 use Rattle.lines.specs.Gather.{gathered, scattered, dropLowest}
 use Rattle.compare.specs.Same.{same}
 use Rattle.records.specs.Sections.{labelSize, fieldBytes, kindOf, mostOf, descriptionSize, descriptionFault}
-use Rattle.sheet.specs.Reading.{recordFault, recordsVerdict, countVerdict, sectionVerdict, sectionsVerdict, verdict}
+use Rattle.sheet.specs.Reading.{among, recordFault, recordsVerdict, countVerdict, sectionVerdict, sectionsVerdict, verdict}
 use Rattle.records.specs.Records.{recordsFrom, find}
 use Rattle.sheet.specs.Parsed.{joined, render, longestSheet, sectionsFrom, parse}
 use Rattle.sheet.proofs.Examples.{full}
@@ -46,10 +46,10 @@ use Rattle.range.specs.Description as range-kind
 use Rattle.sum.specs.Description as sum-kind
 use Rattle.state.specs.Description as state-kind
 
--- n records from slot s on, each with this label byte throughout and this description
+-- n records from slot s on with this description, each with a label byte of its own throughout, from this one on
 slots : (n s label : ℕ) (d : List ℕ) → List (List ℕ)
 slots zero s label d = []
-slots (suc n) s label d = (s ∷ (replicate labelSize label ++ d)) ∷ slots n (s + 1) label d
+slots (suc n) s label d = (s ∷ (replicate labelSize label ++ d)) ∷ slots n (s + 1) (label + 1) d
 
 -- every slot of every section is taken, and every label and every description differs
 pub older : List ℕ
@@ -81,7 +81,7 @@ unfolding fieldBytes slots older newer render joined parse sectionsFrom recordsF
 longest-notice-reached = refl
 
 pub longest-notice-sheets : (verdict older ≡ Accepted) × (verdict newer ≡ Accepted)
-unfolding fieldBytes slots older newer render joined kindOf descriptionSize mostOf descriptionFault term-kind.fault range-kind.fault edge-kind.fault sum-kind.fault state-kind.fault u32At allWithin rangeFault ones overLines recordFault recordsVerdict countVerdict sectionVerdict sectionsVerdict verdict
+unfolding fieldBytes slots older newer render joined kindOf descriptionSize mostOf descriptionFault term-kind.fault range-kind.fault edge-kind.fault sum-kind.fault state-kind.fault u32At allWithin rangeFault ones overLines among same recordFault recordsVerdict countVerdict sectionVerdict sectionsVerdict verdict
 longest-notice-sheets = (refl, refl)
 
 -- no accepted sheet is longer than 1,571 bytes, and one is as long [S8]

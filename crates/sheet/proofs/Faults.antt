@@ -49,6 +49,10 @@ module _ (k : ℕ) (before : List (List ℕ)) (r : List ℕ) where
             simp (le-ltb (length r) (recordSize k) whole, lt-leb (mostOf k) (slotOf r) fit, le-ltb (slotOf r) (leastSlot before) rising)
             (label-first (allWithin 0x20 0x7E (labelOf r)) (among (labelOf r) (map labelOf before)) (descriptionFault k (descriptionOf r)))
 
+        pub record-taken : allWithin 0x20 0x7E (labelOf r) ≡ true → among (labelOf r) (map labelOf before) ≡ true → recordFault k before r ≡ 19
+        unfolding recordFault
+        record-taken e met = simp (le-ltb (length r) (recordSize k) whole, lt-leb (mostOf k) (slotOf r) fit, le-ltb (slotOf r) (leastSlot before) rising, e, met)
+
         pub record-description : allWithin 0x20 0x7E (labelOf r) ≡ true → among (labelOf r) (map labelOf before) ≡ false
             → recordFault k before r ≡ descriptionFault k (descriptionOf r)
         unfolding recordFault

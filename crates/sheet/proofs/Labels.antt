@@ -23,7 +23,7 @@ neither true b e = absurd (true≢false e)
 neither false b e = (refl, e)
 
 -- none of these records has the label
-abbrev Unlike : (label : List ℕ) (rs : List (List ℕ)) → Type 0
+abbrev pub Unlike : (label : List ℕ) (rs : List (List ℕ)) → Type 0
 Unlike label rs = (i : ℕ) → i < length rs → labelOf (getD rs i []) ≡ label → ⊥
 
 not-among : (label : List ℕ) (rs : List (List ℕ)) → among label (map labelOf rs) ≡ false → Unlike label rs
@@ -34,7 +34,14 @@ not-among label (r ∷ rs) e zero h q =
 not-among label (r ∷ rs) e (suc i) h q =
     not-among label rs (neither (same label (labelOf r)) (among label (map labelOf rs)) e .1) i (omega arith) q
 
-among-none : (label : List ℕ) (rs : List (List ℕ)) → Unlike label rs → among label (map labelOf rs) ≡ false
+pub among-some : (label : List ℕ) (rs : List (List ℕ)) (i : ℕ) → i < length rs → labelOf (getD rs i []) ≡ label → among label (map labelOf rs) ≡ true
+among-some label rs i h e = by-test (among label (map labelOf rs)) refl
+  where
+    by-test : (b : Bool) → among label (map labelOf rs) ≡ b → b ≡ true
+    by-test true q = refl
+    by-test false q = absurd (not-among label rs q i h e)
+
+pub among-none : (label : List ℕ) (rs : List (List ℕ)) → Unlike label rs → among label (map labelOf rs) ≡ false
 unfolding among
 among-none label [] u = refl
 among-none label (r ∷ rs) u =

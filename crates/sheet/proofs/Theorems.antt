@@ -1,5 +1,6 @@
 -- What is promised of the set-up sheet, each under the rule that asks for it. Assumes nothing.
 use Prim.Native.Nat.{ℕ, _+_, _≤_, _<_}
+use mathlib.Core.Bool.{true}
 use mathlib.Core.List.{List, []}
 use mathlib.Core.Logic.{_↔_}
 use mathlib.Core.Path.{_≡_, refl, sym, ap, _∙_}
@@ -8,14 +9,17 @@ use lib.ListN.{length, getD, take, replicate}
 use Rattle.peek.specs.Bytes.{Bytes}
 use Rattle.buffer.specs.declared.Verdict.the-variants.{Accepted, Refused}
 use Rattle.compare.proofs.Within.{within-at}
-use Rattle.records.specs.Sections.{sections, kindOf, mostOf, descriptionSize, slotOf, labelOf}
-use Rattle.sheet.specs.Reading.{recordsVerdict, countVerdict, sectionVerdict, sectionsVerdict, verdict}
+use Rattle.compare.specs.Within.{allWithin}
+use Rattle.records.specs.Sections.{sections, kindOf, mostOf, descriptionSize, recordSize, descriptionFault, slotOf, labelOf, descriptionOf}
+use Rattle.sheet.specs.Reading.{leastSlot, recordFault, recordsVerdict, countVerdict, sectionVerdict, sectionsVerdict, verdict}
 use Rattle.records.specs.Records.{recordAt, recordCount, find, front}
 use Rattle.sheet.specs.Parts.{sectionUnchecked, sectionOf}
 use Rattle.sheet.specs.Parsed.{joined, render, Faultless, LabelsDiffer, WellFormed, Arranged, longestSheet, parse, AcceptedDescription}
 use Rattle.kinds.specs.Table as kinds
 use Rattle.sheet.proofs.Descriptions.{accepted-description}
 use Rattle.sheet.proofs.Examples.{full, full-length, full-accepted}
+use Rattle.sheet.proofs.Faults.{record-taken, record-description}
+use Rattle.sheet.proofs.Labels.{Unlike, among-some, among-none}
 use Rattle.sheet.proofs.Found.{Stands, find-found, find-none, find-at, cursor, cursor-find}
 use Rattle.sheet.proofs.Longest.{longestFrom, longest, enough-read}
 use Rattle.sheet.proofs.Parsed.{render-accepted, parse-render, accepted-well-formed, accepted-rendered}
@@ -106,6 +110,16 @@ found-stands = find-found
 
 pub found-nothing : (slot : ℕ) (rs : List (List ℕ)) → ((i : ℕ) → i < length rs → slotOf (getD rs i []) ≡ slot → ⊥) → find slot rs ≡ []
 found-nothing = find-none
+
+-- a record of which 1, 3, 4 and 5 do not hold: 19 where an earlier one of its section has its label, whichever that is;
+-- where none has, its description is judged [F19, O1]
+module _ (k : ℕ) (before : List (List ℕ)) (r : List ℕ) (whole : recordSize k ≤ length r) (fits : slotOf r < mostOf k)
+    (rising : leastSlot before ≤ slotOf r) (plain : allWithin 0x20 0x7E (labelOf r) ≡ true) where
+  pub label-met-before : (i : ℕ) → i < length before → labelOf (getD before i []) ≡ labelOf r → recordFault k before r ≡ 19
+  label-met-before i h e = record-taken k before r whole fits rising plain (among-some (labelOf r) before i h e)
+
+  pub label-is-new : Unlike (labelOf r) before → recordFault k before r ≡ descriptionFault k (descriptionOf r)
+  label-is-new u = record-description k before r whole fits rising plain (among-none (labelOf r) before u)
 
 -- each label byte is from 0x20 to 0x7E [S4]
 pub label-byte : (k floor : ℕ) (r : List ℕ) → Faultless k floor r → (i : ℕ) → i < length (labelOf r) → (0x20 ≤ getD (labelOf r) i 0) × (getD (labelOf r) i 0 ≤ 0x7E)

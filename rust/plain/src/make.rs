@@ -82,7 +82,7 @@ impl Setup {
         for (section, &most) in MOST.iter().enumerate() {
             for slot in 0..most {
                 if random.below(8) < taken {
-                    let record = record(random, section, slot);
+                    let record = setup.record(random, section, slot);
                     setup.sections[section].push(record);
                 }
             }
@@ -104,40 +104,133 @@ impl Setup {
     pub fn near(&self, random: &mut Random) -> Setup {
         let mut setup = self.clone();
         for (section, &most) in MOST.iter().enumerate() {
-            let records = &mut setup.sections[section];
-            for record in records.iter_mut() {
-                match random.below(8) {
-                    0 => record[1 + random.below(8)] = label_byte(random),
-                    1 => {
-                        record.truncate(9);
-                        record.extend(description(random, section));
-                    }
-                    2 | 3 => nudge(random, section, record),
-                    4 => {
-                        nudge(random, section, record);
-                        record[1..9].copy_from_slice(&label(random));
-                    }
-                    _ => {}
-                }
+            for which in 0..setup.sections[section].len() {
+                setup.change(random, section, which);
             }
-            records.retain(|_| !random.one_in(12));
+            setup.sections[section].retain(|_| !random.one_in(12));
             for slot in 0..most {
-                let at = records.partition_point(|record| record[0] < slot);
-                let free = records.get(at).is_none_or(|record| record[0] != slot);
-                if free && random.one_in(16) {
-                    // a record moved to a free slot, or a fresh one
-                    if records.is_empty() || random.one_in(2) {
-                        records.insert(at, self::record(random, section, slot));
-                    } else {
-                        let mut moved = records.remove(random.below(records.len()));
-                        moved[0] = slot;
-                        let at = records.partition_point(|record| record[0] < slot);
-                        records.insert(at, moved);
-                    }
+                let taken = setup.sections[section].iter().any(|record| record[0] == slot);
+                if !taken && random.one_in(16) {
+                    setup.fill(random, section, slot);
                 }
             }
         }
         setup
+    }
+
+    /// Changes a record's label, its description, both or nothing.
+    fn change(&mut self, random: &mut Random, section: usize, which: usize) {
+        match random.below(8) {
+            0 => {
+                let label = one_byte_off(random, self.label(section, which));
+                self.give_label(section, which, label);
+            }
+            1 => {
+                self.sections[section][which].truncate(9);
+                self.sections[section][which].extend(description(random, section));
+            }
+            2 | 3 => nudge(random, section, &mut self.sections[section][which]),
+            4 => {
+                nudge(random, section, &mut self.sections[section][which]);
+                let label = self.free_label(random, section);
+                self.give_label(section, which, label);
+            }
+            _ => {}
+        }
+    }
+
+    /// Puts a record into a free slot: a fresh one, or one of another slot that moves.
+    fn fill(&mut self, random: &mut Random, section: usize, slot: u8) {
+        let mut record = self.record(random, section, slot);
+        let records = &mut self.sections[section];
+        if !records.is_empty() && random.one_in(2) {
+            record = records.remove(random.below(records.len()));
+            record[0] = slot;
+        }
+        let at = records.partition_point(|other| other[0] < slot);
+        records.insert(at, record);
+    }
+
+    fn record(&self, random: &mut Random, section: usize, slot: u8) -> Vec<u8> {
+        let mut record = vec![slot];
+        record.extend(self.free_label(random, section));
+        record.extend(description(random, section));
+        record
+    }
+
+    fn label(&self, section: usize, which: usize) -> [u8; 8] {
+        self.sections[section][which][1..9].try_into().expect("eight bytes")
+    }
+
+    fn set_label(&mut self, section: usize, which: usize, label: [u8; 8]) {
+        self.sections[section][which][1..9].copy_from_slice(&label);
+    }
+
+    /// Whether no record of the section has this label.
+    fn is_free(&self, section: usize, label: [u8; 8]) -> bool {
+        self.sections[section].iter().all(|record| record[1..9] != label)
+    }
+
+    /// Sets the label if no record of the section has it, and answers whether it did.
+    fn give_label(&mut self, section: usize, which: usize, label: [u8; 8]) -> bool {
+        let free = self.is_free(section, label);
+        if free {
+            self.set_label(section, which, label);
+        }
+        free
+    }
+
+    /// A label that no record of the section has: any, or blank, or that of a record of another section, or one byte
+    /// off some record's.
+    fn free_label(&self, random: &mut Random, section: usize) -> [u8; 8] {
+        loop {
+            let other = if random.one_in(2) { section } else { random.below(SECTIONS) };
+            let label = match (random.below(32), self.sections[other].len()) {
+                (0, _) => *b"        ",
+                (1..=4, met @ 1..) => self.label(other, random.below(met)),
+                (5..=12, met @ 1..) => {
+                    let label = self.label(other, random.below(met));
+                    one_byte_off(random, label)
+                }
+                _ => std::array::from_fn(|_| label_byte(random)),
+            };
+            if self.is_free(section, label) {
+                return label;
+            }
+        }
+    }
+
+    /// Gives a record the label of another record of its section: 19 at the later of the two, where nothing else is
+    /// wrong. Answers section and record of that, or nothing where no section has two records.
+    pub fn same_label(&mut self, random: &mut Random) -> Option<(usize, usize)> {
+        let sections: Vec<usize> = (0..SECTIONS).filter(|&section| self.sections[section].len() >= 2).collect();
+        if sections.is_empty() {
+            return None;
+        }
+        let section = random.pick(&sections);
+        let count = self.sections[section].len();
+        let from = random.below(count);
+        // each of the others
+        let to = (from + 1 + random.below(count - 1)) % count;
+        self.set_label(section, to, self.label(section, from));
+        Some((section, from.max(to)))
+    }
+
+    /// Gives a record the label of a record of another section, where none of its own has it: no fault. Answers whether
+    /// it did.
+    pub fn label_across(&mut self, random: &mut Random) -> bool {
+        let (from, to) = (random.below(SECTIONS), random.below(SECTIONS));
+        let (given, taking) = (self.sections[from].len(), self.sections[to].len());
+        if from == to || given == 0 || taking == 0 {
+            return false;
+        }
+        let label = self.label(from, random.below(given));
+        self.give_label(to, random.below(taking), label)
+    }
+
+    /// Where a section's count stands on the sheet.
+    pub fn count_at(&self, section: usize) -> usize {
+        (0..section).map(|before| 1 + self.sections[before].len() * SIZE[before]).sum()
     }
 }
 
@@ -149,15 +242,14 @@ fn label_byte(random: &mut Random) -> u8 {
     }
 }
 
-fn label(random: &mut Random) -> [u8; 8] {
-    std::array::from_fn(|_| label_byte(random))
-}
-
-fn record(random: &mut Random, section: usize, slot: u8) -> Vec<u8> {
-    let mut record = vec![slot];
-    record.extend(label(random));
-    record.extend(description(random, section));
-    record
+/// The label with another byte at one place.
+fn one_byte_off(random: &mut Random, mut label: [u8; 8]) -> [u8; 8] {
+    let byte = &mut label[random.below(8)];
+    let before = *byte;
+    while *byte == before {
+        *byte = label_byte(random);
+    }
+    label
 }
 
 fn numbers(numbers: &[u32]) -> Vec<u8> {
@@ -272,14 +364,7 @@ fn near_range(random: &mut Random, [lower, upper, mask]: [u32; 3]) -> [u32; 3] {
 pub fn damaged_sheet(random: &mut Random, setup: &Setup) -> Vec<u8> {
     let mut setup = setup.clone();
     for _ in 0..random.pick(&[0, 1, 1, 1, 2, 3]) {
-        let section = random.below(SECTIONS);
-        let records = &mut setup.sections[section];
-        if records.is_empty() {
-            continue;
-        }
-        let which = random.below(records.len());
-        let before = records[which.saturating_sub(1)][0];
-        damage_record(random, section, before, &mut records[which]);
+        damage_setup(random, &mut setup);
     }
     if random.one_in(8) {
         let section = random.below(SECTIONS);
@@ -289,7 +374,6 @@ pub fn damaged_sheet(random: &mut Random, setup: &Setup) -> Vec<u8> {
         }
     }
     let mut sheet = setup.sheet();
-    let count_at = |section: usize| (0..section).map(|s| 1 + setup.sections[s].len() * SIZE[s]).sum::<usize>();
     match random.below(11) {
         0 => sheet.truncate(random.below(sheet.len() + 1)),
         1 => sheet.extend((0..1 + random.below(30)).map(|_| random.u8())),
@@ -300,13 +384,38 @@ pub fn damaged_sheet(random: &mut Random, setup: &Setup) -> Vec<u8> {
         3 => {
             // a count that is not true
             let section = random.below(SECTIONS);
-            let at = count_at(section);
+            let at = setup.count_at(section);
             sheet[at] = random.pick(&[sheet[at].wrapping_add(1), sheet[at].wrapping_sub(1), MOST[section] + 1, 255, 0]);
         }
-        4 => sheet.truncate(count_at(4)), // a sheet from before there were states
+        4 => sheet.truncate(setup.count_at(4)), // a sheet from before there were states
         _ => {}
     }
     sheet
+}
+
+/// Puts a fault into some record, or tries to. One that has another's label is now and then damaged further, so that 19
+/// meets the other faults of a record.
+fn damage_setup(random: &mut Random, setup: &mut Setup) {
+    let (section, which) = match random.below(8) {
+        0 => {
+            setup.label_across(random);
+            return;
+        }
+        1 => match setup.same_label(random) {
+            Some(later) if random.one_in(3) => later,
+            _ => return,
+        },
+        _ => {
+            let section = random.below(SECTIONS);
+            match setup.sections[section].len() {
+                0 => return,
+                count => (section, random.below(count)),
+            }
+        }
+    };
+    let records = &mut setup.sections[section];
+    let before = records[which.saturating_sub(1)][0];
+    damage_record(random, section, before, &mut records[which]);
 }
 
 /// Puts a fault into a record, or tries to; `before` is the slot of the record before it.
@@ -365,6 +474,28 @@ pub fn stream(sheet: &[u8]) -> Vec<u8> {
     let length = compile(sheet, &mut out).expect("an accepted sheet");
     out.truncate(length);
     out
+}
+
+/// What reading the commands of an accepted sheet has to give: the sheet with labels of section and slot, and each
+/// target cut to its mask.
+pub fn read_back(sheet: &[u8]) -> Vec<u8> {
+    let mut sheet = sheet.to_vec();
+    let mut at = 0;
+    for (section, size) in SIZE.into_iter().enumerate() {
+        let count = usize::from(sheet[at]);
+        at += 1;
+        for record in sheet[at..at + count * size].chunks_exact_mut(size) {
+            let name = format!("{}{:02}", ["T", "R", "E", "S", "Q"][section], record[0]);
+            record[1..9].copy_from_slice(format!("{name:<8}").as_bytes());
+            if section == 0 {
+                for byte in 9..13 {
+                    record[byte] &= record[byte + 4];
+                }
+            }
+        }
+        at += count * size;
+    }
+    sheet
 }
 
 /// The commands of the sheet with some damage, or none.
@@ -514,7 +645,7 @@ pub fn words(random: &mut Random, count: usize) -> Vec<u32> {
 
 /// How often each answer came: 0 done, else the refusal's number.
 #[derive(Default, Debug)]
-pub struct Tally([usize; 19]);
+pub struct Tally([usize; 20]);
 
 impl Tally {
     pub fn count(&mut self, number: u8) {

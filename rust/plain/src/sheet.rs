@@ -7,6 +7,9 @@ pub const SECTIONS: usize = 5;
 pub const MOST: [u8; SECTIONS] = [10, 2, 2, 48, 16];
 pub const SIZE: [usize; SECTIONS] = [17, 21, 21, 20, 22];
 
+/// No section has more records than the sums.
+const MOST_OF_ANY: usize = 48;
+
 pub const LONGEST_SHEET: usize = 1571;
 
 /// Where a record's description starts: after slot and label.
@@ -30,6 +33,7 @@ pub fn section(sheet: &[u8], number: u8) -> (u8, usize, usize) {
 /// The records of each section, or the first fault from the left.
 pub(crate) fn parts(sheet: &[u8]) -> Result<[&[u8]; SECTIONS], Refusal> {
     let mut parts: [&[u8]; SECTIONS] = [&[]; SECTIONS];
+    let mut labels = [0; MOST_OF_ANY];
     let mut at = 0;
     for section in 0..SECTIONS {
         let Some(&count) = sheet.get(at) else { return refused(1, at) };
@@ -39,12 +43,13 @@ pub(crate) fn parts(sheet: &[u8]) -> Result<[&[u8]; SECTIONS], Refusal> {
         at += 1;
         let start = at;
         let mut before = None;
-        for _ in 0..count {
+        for met in 0..usize::from(count) {
             let Some(record) = sheet.get(at..at + SIZE[section]) else { return refused(1, at) };
-            if let Some(number) = fault(section, record, before) {
+            if let Some(number) = fault(section, record, before, &labels[..met]) {
                 return refused(number, at);
             }
             before = Some(record[0]);
+            labels[met] = label(record);
             at += SIZE[section];
         }
         parts[section] = &sheet[start..at];
@@ -55,8 +60,14 @@ pub(crate) fn parts(sheet: &[u8]) -> Result<[&[u8]; SECTIONS], Refusal> {
     Ok(parts)
 }
 
-/// What is wrong with a whole record, by the lowest number; `before` is the slot of the record before it.
-fn fault(section: usize, record: &[u8], before: Option<u8>) -> Option<u8> {
+/// The eight bytes of a record's label as one number: compared all at once, and several labels at a time.
+fn label(record: &[u8]) -> u64 {
+    u64::from_le_bytes(record[1..DESCRIPTION].try_into().expect("a label has eight bytes"))
+}
+
+/// The first thing that is wrong with a whole record; `before` is the slot of the record before it, `labels` are those
+/// of all the records before it in its section.
+fn fault(section: usize, record: &[u8], before: Option<u8>, labels: &[u64]) -> Option<u8> {
     let slot = record[0];
     if slot >= MOST[section] {
         return Some(3);
@@ -66,6 +77,9 @@ fn fault(section: usize, record: &[u8], before: Option<u8>) -> Option<u8> {
     }
     if record[1..DESCRIPTION].iter().any(|&byte| !(0x20..=0x7E).contains(&byte)) {
         return Some(5);
+    }
+    if labels.contains(&label(record)) {
+        return Some(19);
     }
     description_fault(section, &record[DESCRIPTION..])
 }

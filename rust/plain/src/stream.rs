@@ -15,6 +15,9 @@ const ITEM: [usize; SECTIONS] = [5 * 5, 2 * 17 * 5, 9 * 5, 7 * 5, 2 * 5];
 /// The sections by their addresses: the states go out first.
 const SENDING: [usize; SECTIONS] = [4, 0, 1, 2, 3];
 
+/// What the label of a record that is read begins with, before the slot's two digits.
+const LETTER: [u8; SECTIONS] = *b"TRESQ";
+
 /// Lent room that commands are put into, one after the other.
 struct Commands<'a> {
     room: &'a mut [u8],
@@ -149,8 +152,8 @@ impl Growing {
     fn head(&mut self, section: usize, slot: u8) {
         self.go_to(section);
         self.bytes[self.count_at] += 1;
-        self.put(&[slot]);
-        self.put(b"        ");
+        let (tens, ones) = (b'0' + slot / 10, b'0' + slot % 10);
+        self.put(&[slot, LETTER[section], tens, ones, b' ', b' ', b' ', b' ', b' ']);
     }
 
     fn numbers(&mut self, numbers: &[u32]) {

@@ -15,9 +15,14 @@ fn record(slot: u8, label: &[u8; 8], numbers: &[u32]) -> Vec<u8> {
     record
 }
 
+/// A label for each slot, where a section has several records.
+fn label(slot: u8) -> [u8; 8] {
+    format!("LABEL {slot:02}").into_bytes().try_into().expect("eight bytes")
+}
+
 /// The flags by their bits, the lowest first.
 fn state(slot: u8, number: u32, else_state: u8, flags: u8) -> Vec<u8> {
-    let mut record = record(slot, LABEL, &[number]);
+    let mut record = record(slot, &label(slot), &[number]);
     record.push(else_state);
     record.extend((0..8).map(|bit| flags >> bit & 1));
     record
@@ -194,8 +199,12 @@ fn states_go_out_first() {
     assert_eq!(numbers[4], (0x9E, 0x20));
     let mut back = vec![0; sheet.len()];
     assert_eq!(read(&stream, &mut back), Ok(sheet.len()));
-    let blank = String::from_utf8_lossy(&sheet).replace("LABEL", "     ");
-    assert_eq!(String::from_utf8_lossy(&back), blank);
+    let mut labelled = String::from_utf8_lossy(&sheet).into_owned();
+    for (label, reads) in [("LABEL   ", "T00     "), ("LABEL 00", "Q00     "), ("LABEL 15", "Q15     ")] {
+        assert!(labelled.contains(label));
+        labelled = labelled.replace(label, reads);
+    }
+    assert_eq!(String::from_utf8_lossy(&back), labelled);
 }
 
 #[test]
@@ -208,7 +217,8 @@ fn states_in_a_stream() {
         for word in [0, 1, 0x000F_FFFF, 0x0010_0000, 0x5AA5_5AA5, 0x8000_0000, 0xFFFF_FFFF] {
             assert_eq!(read(&item(slot, word), &mut out), Ok(27));
             assert_eq!(check(&out[..27]), Ok(()));
-            assert_eq!((&out[..5], out[5], &out[6..14]), (&[0, 0, 0, 0, 1][..], slot as u8, &b"        "[..]));
+            let label = format!("Q{slot:02}     ");
+            assert_eq!((&out[..5], out[5], &out[6..14]), (&[0, 0, 0, 0, 1][..], slot as u8, label.as_bytes()));
             let fields = (word & 0xF_FFFF, (word >> 20 & 15) as u8, (word >> 24) as u8);
             assert_eq!(out[14..27], state(0, fields.0, fields.1, fields.2)[9..]);
         }
@@ -314,14 +324,14 @@ fn sums() {
 #[test]
 fn sizes() {
     let operations = |slot| {
-        let mut record = record(slot, LABEL, &[]);
+        let mut record = record(slot, &label(slot), &[]);
         record.extend([9; 11]);
         record
     };
     let mut full: [Vec<Vec<u8>>; 5] = Default::default();
-    full[0] = (0..10).map(|slot| record(slot, LABEL, &[1, 1])).collect();
-    full[1] = (0..2).map(|slot| record(slot, LABEL, &[1, 1, 1])).collect();
-    full[2] = (0..2).map(|slot| record(slot, LABEL, &[1, 1, 2])).collect();
+    full[0] = (0..10).map(|slot| record(slot, &label(slot), &[1, 1])).collect();
+    full[1] = (0..2).map(|slot| record(slot, &label(slot), &[1, 1, 1])).collect();
+    full[2] = (0..2).map(|slot| record(slot, &label(slot), &[1, 1, 2])).collect();
     full[3] = (0..48).map(operations).collect();
     full[4] = (0..16).map(|slot| state(slot, 1, 15, 0xFF)).collect();
     let old = sheet([&full[0], &full[1], &full[2], &full[3], &full[4]]);

@@ -13,6 +13,15 @@ fn examples_are_as_made() {
     for (name, length) in [("old.sheet", 60), ("new.sheet", 56), ("lift.sheet", 570), ("lift-revised.sheet", 569)] {
         assert_eq!((plain::check(bytes(name)), bytes(name).len()), (Ok(()), length), "{name}");
     }
+    // what is read back is a sheet again, with the reader's labels
+    for name in ["old", "new", "lift", "lift-revised"] {
+        let back = bytes(&format!("{name}.back"));
+        assert_eq!((plain::check(back), back.len()), (Ok(()), bytes(&format!("{name}.sheet")).len()), "{name}");
+    }
+    for (at, label) in [(2, "T00     "), (138, "T09     "), (177, "R01     "), (199, "E00     "), (462, "S11     ")] {
+        assert_eq!(&bytes("lift.back")[at..at + 8], label.as_bytes());
+    }
+    assert_eq!(&bytes("lift.back")[549..557], b"Q03     ");
     assert!(bytes("lift-revised.notice").ends_with(b"STAT 01 NAME\nSTAT 02 ALTR\nSTAT 03 GONE\nSTAT 04 NEW\n"));
     let states = concat!(
         " 481  states: 4\n",

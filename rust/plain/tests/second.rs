@@ -1,29 +1,10 @@
 //! The compiler of the plain implementation gives what the second program (second/) sends, on every stored case, and
-//! reading that back gives the sheet with blank labels and targets cut to their masks.
-use plain::{check, compile, read, LONGEST_STREAM, SIZE};
+//! reading that back gives the sheet with the reader's labels and targets cut to their masks.
+use plain::make::read_back;
+use plain::{check, compile, read, LONGEST_STREAM};
 
 fn length(data: &[u8], at: usize) -> usize {
     usize::from(u16::from_le_bytes([data[at], data[at + 1]]))
-}
-
-/// What reading back gives for an accepted sheet.
-fn read_back(sheet: &[u8]) -> Vec<u8> {
-    let mut sheet = sheet.to_vec();
-    let mut at = 0;
-    for (section, size) in SIZE.into_iter().enumerate() {
-        let count = usize::from(sheet[at]);
-        at += 1;
-        for record in sheet[at..at + count * size].chunks_exact_mut(size) {
-            record[1..9].fill(b' ');
-            if section == 0 {
-                for byte in 9..13 {
-                    record[byte] &= record[byte + 4];
-                }
-            }
-        }
-        at += count * size;
-    }
-    sheet
 }
 
 #[test]
@@ -48,5 +29,5 @@ fn compile_sends_what_the_second_program_sends() {
         cases += 1;
     }
     assert_eq!(at + 2, data.len(), "nothing follows the end mark");
-    assert_eq!(cases, 522);
+    assert_eq!(cases, 533);
 }
