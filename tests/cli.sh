@@ -72,6 +72,13 @@ make_files() {
     printf '\000\000\000\000\001\000LOCKED  \377\377\017\000\020\000\000\000\000\000\000\000\000' >else
     printf '\000\000\000\000\001\000LOCKED  \377\377\017\000\017\002\001\001\001\001\001\001\001' >flag
     head -c 59 old.sheet >four
+    term='\005\000\000\000\017\000\000\000'
+    # shellcheck disable=SC2059
+    {
+        printf "\003\000DOORLOCK$term\001BRAKE   $term\011DOORLOCK$term\000\000\000\000" >again
+        printf "\002\000        $term\001        $term\000\000\000\000" >blanks
+        printf "\001\000        $term\001\001        \003\000\000\000\011\000\000\000\017\000\000\000\000\000\000" >blank
+    }
     printf '\237\040\000\000\000' >load
     printf '\236\103\000\000\000' >address
     printf '\236\040\000\000' >short
@@ -119,6 +126,8 @@ sections() {
 
 torn='torn: refused 1 at 18: count or record incomplete; terms, record 2: 12 of its 17 bytes are there\n'
 lower="lower: refused 6 at 2: lower bound is 0; ranges, record 1, slot 0 'LOWER 0 ': lower 0, where 1 is the least\n"
+label='label the same as an earlier one of its section'
+again="again: refused 19 at 35: $label; terms, record 3, slot 9 'DOORLOCK': the same label as record 1, slot 0\n"
 state=": refused 18 at 5: a state's field too big for its place; states, record 1, slot 0 'LOCKED  '"
 refusals() {
     complains 1 'empty: refused 1 at 0: count or record incomplete; terms: the count is missing\n' check empty
@@ -129,6 +138,11 @@ refusals() {
     complains 1 "number$state: number 1048576, where at most 1048575 fits\n" check number
     complains 1 "else$state: else state 16, where at most 15 fits\n" compile else
     complains 1 "flag$state: flag stop1 is 2, where a flag is 0 or 1\n" notice old.sheet flag
+    complains 1 "$again" check again
+    complains 1 "$again" compile again
+    complains 1 "$again" notice old.sheet again
+    complains 1 "blanks: refused 19 at 18: $label; terms, record 2, slot 1 '        ': the same label as record 1, slot 0\n" check blanks
+    says 'blank: accepted\n' check blank
     complains 1 'four: refused 1 at 59: count or record incomplete; states: the count is missing\n' check four
     complains 1 'zeros: refused 11 at 5: bytes left over; byte 00 hex after the last section\n' compile zeros
     complains 1 "noise: refused 2 at 0: count above the section's most; terms: count 255, where 10 is the most\n" check noise
@@ -145,6 +159,24 @@ refusals() {
     # shellcheck disable=SC2059
     printf "$torn" >want.err
     compare 1 show torn
+}
+
+# what is read back is a sheet: its labels are those of the reader, and it compiles to the stream again
+labels() {
+    for name in old new lift lift-revised; do
+        cp "$examples/$name.back" back
+        says 'back: accepted\n' check back
+        gives "$examples/$name.commands" compile back
+    done
+    cp "$root/crates/cli_cases/data/longest.commands" .
+    says '' read longest.commands -o back
+    says 'back: accepted\n' check back
+    gives longest.commands compile back
+    "$voltamar" show back >shown
+    for line in 'slot 0 "T00     "' 'slot 9 "T09     "' 'slot 1 "R01     "' 'slot 1 "E01     "' 'slot 10 "S10     "' 'slot 47 "S47     "' \
+        'slot 15 "Q15     "'; do
+        expect "the sheet that is read has no $line" grep -qF "$line" shown
+    done
 }
 
 # file names that look like what the program says, break a line, or look like an option
@@ -229,7 +261,7 @@ meanings() {
     sed -n 's/^ *∷ "\(.*\)"$/\1/p' "$root/crates/refusal/specs/Words.antt" | awk '{ print NR, $0 }' >of_text
     sed -n 's/^ *\[VOLTAMAR_.*\] = "\(.*\)",$/\1/p' "$root/include/meaning.c" | sed 1d | awk '{ print NR, $0 }' >of_c
     sed -n 's/^ *\([0-9]*\) => "\(.*\)",$/\1 \2/p' "$root/rust/src/lib.rs" >of_rust
-    [ "$(wc -l <of_text)" -ge 18 ] || wrong 'meanings: not found'
+    [ "$(wc -l <of_text)" -ge 19 ] || wrong 'meanings: not found'
     expect 'include/meaning.c has other words' cmp -s of_text of_c
     expect 'rust/src/lib.rs has other words' cmp -s of_text of_rust
 }
@@ -477,7 +509,7 @@ installs() {
 
 "$voltamar" --version >/dev/null || wrong 'not built'
 make_files
-for part in samples sections refusals names file_trouble misuse helps meanings inputs output_files two_at_once no_output terminal reports \
+for part in samples sections refusals labels names file_trouble misuse helps meanings inputs output_files two_at_once no_output terminal reports \
     first_build later_builds a_signal unwritable installs; do
     $part
 done

@@ -111,7 +111,7 @@ fn write_more(verb: u8, fd: i32) -> bool {
         ),
         words::READ => io::write_all(
             fd,
-            b"Writes the sheet that the command bytes set up, with blank labels and targets cut to their masks.\nBytes are not written to a terminal, unless with --force.\n",
+            b"Writes the sheet that the command bytes set up, with targets cut to their masks. The commands hold no labels: each\nlabel is its section's letter (T, R, E, S, Q: terms, ranges, edges, sums, states) and its slot in two digits, as S47.\nBytes are not written to a terminal, unless with --force.\n",
         ),
         words::NOTICE => write_notice_help(fd),
         words::SHOW => io::write_all(

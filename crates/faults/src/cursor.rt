@@ -1,6 +1,7 @@
-// A walk over a sheet by its counts: which count or record starts at an offset.
+// A walk over a sheet by its counts: which count or record starts at an offset, and which record had a label first.
 ghost use mathlib.Core.Path.{_≡_};
 ghost use Prim.Native.Nat.{_-_, _≤_};
+use records::label;
 use records::record_size;
 
 // What starts at `at`: the count of a section, or a record of it by its number, the first being 1.
@@ -86,4 +87,30 @@ pub(crate) fn seek(sheet: &[u8], place: usize) -> Cursor {
         here = next(sheet, here, place);
     }
     here
+}
+
+// The first record of a section that has the label of this later one; the later one itself where no other has.
+pub(crate) fn first_alike(sheet: &[u8], later: Cursor) -> Cursor {
+    let mut here = start();
+    while here.at < later.at {
+        if is_alike(sheet, here, later) {
+            return here;
+        }
+        here = next(sheet, here, later.at);
+    }
+    later
+}
+
+// Whether two records are of one section and have one label; a count has none.
+fn is_alike(sheet: &[u8], here: Cursor, later: Cursor) -> bool {
+    if here.record == 0 {
+        return false;
+    }
+    if here.section != later.section {
+        return false;
+    }
+    compare::same_bytes(
+        label(peek::suffix(sheet, here.at)),
+        label(peek::suffix(sheet, later.at)),
+    )
 }

@@ -1,5 +1,6 @@
 // A record at fault: where it stands in its section, its slot and its label, and the value.
 use crate::cursor::Cursor;
+use crate::cursor::first_alike;
 use crate::values::put_value;
 use records::label;
 use records::record_size;
@@ -9,6 +10,8 @@ use text::put_number;
 const INCOMPLETE: u8 = 1;
 
 const SLOT_NOT_RISING: u8 = 4;
+
+const LABEL_TAKEN: u8 = 19;
 
 pub(crate) fn put_record(
     out: &mut [u8],
@@ -27,6 +30,9 @@ pub(crate) fn put_record(
     let b = put_slot(out, a, record);
     if number == SLOT_NOT_RISING {
         return put_not_rising(out, b, sheet, here.at, size);
+    }
+    if number == LABEL_TAKEN {
+        return put_alike(out, b, sheet, first_alike(sheet, here));
     }
     put_value(out, b, number, here.section, record)
 }
@@ -53,5 +59,16 @@ fn put_not_rising(out: &mut [u8], at: usize, sheet: &[u8], place: usize, size: u
         a,
         b" after slot ",
         slot(peek::suffix(sheet, before)) as usize,
+    )
+}
+
+// The earlier record that has the label.
+fn put_alike(out: &mut [u8], at: usize, sheet: &[u8], earlier: Cursor) -> usize {
+    let a = put_number(out, at, b"the same label as record ", earlier.record);
+    put_number(
+        out,
+        a,
+        b", slot ",
+        slot(peek::suffix(sheet, earlier.at)) as usize,
     )
 }

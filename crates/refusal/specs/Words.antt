@@ -36,6 +36,7 @@ meanings =
     ∷ "words that no accepted description writes"
     ∷ "wrong word count (the place is the count needed)"
     ∷ "a state's field too big for its place"
+    ∷ "label the same as an earlier one of its section"
     ∷ []
 
 -- what a number means, as bytes [A12]

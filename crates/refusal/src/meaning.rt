@@ -7,7 +7,7 @@ ghost use Rattle.refusal.specs.Words.{meaningOf};
 use crate::put::put;
 
 // How many numbers have a row: 0, which no refusal has, and those of the refusals.
-const ROWS: usize = 19;
+const ROWS: usize = 20;
 
 const WIDTH: usize = 48;
 
@@ -31,7 +31,8 @@ const MEANINGS: [u8; ROWS * WIDTH] = *b"\
     address unknown, not rising, or not the one due \
     words that no accepted description writes       \
     wrong word count (the place is the count needed)\
-    a state's field too big for its place           ";
+    a state's field too big for its place           \
+    label the same as an earlier one of its section ";
 
 // How much of each row is text.
 const LENGTHS: [usize; ROWS] = [
@@ -54,18 +55,19 @@ const LENGTHS: [usize; ROWS] = [
     41,
     48,
     37,
+    47,
 ];
 
 // The row for a number; that of 0 where no refusal has the number.
 fn row_of(number: u8) -> usize
-    ensures { λ r. ⌜ (r < 19) × (meaningOf r ≡ meaningOf number) ⌝ }
+    ensures { λ r. ⌜ (r < 20) × (meaningOf r ≡ meaningOf number) ⌝ }
 {
     let row = number as usize;
     if row < ROWS { row } else { 0 }
 }
 
 fn length_of(row: usize) -> usize
-    requires { ⌜ row < 19 ⌝ }
+    requires { ⌜ row < 20 ⌝ }
     ensures { λ r. ⌜ r ≡ length (meaningOf row) ⌝ }
 {
     let lengths = LENGTHS;
@@ -74,7 +76,7 @@ fn length_of(row: usize) -> usize
 
 // The rows; each begins with the text of its number.
 fn rows() -> [u8; ROWS * WIDTH]
-    ensures { λ r. ⌜ ((k : ℕ) → k < 19 → take (length (meaningOf k)) (drop (48 * k) r) ≡ meaningOf k) ⌝ }
+    ensures { λ r. ⌜ ((k : ℕ) → k < 20 → take (length (meaningOf k)) (drop (48 * k) r) ≡ meaningOf k) ⌝ }
 {
     MEANINGS
 }
