@@ -21,7 +21,7 @@ fn mark_of(label: &[u8]) -> usize
 {
     let first = peek::u32_at(label, 0) as u64;
     let last = peek::u32_at(label, 4) as u64;
-    ((first + 123 * last) % 251) as usize
+    ((first + 123 * last) % MARKS as u64) as usize
 }
 
 // Whether two labels are the same. `first` is the number of the first four bytes of one: most others differ there.
@@ -74,8 +74,8 @@ fn is_met(
     }
 }
 
-// The number of the first such record, `count` if there is none before the sheet ends. A walk of its own, because one
-// that looks at the records' other bytes too takes twice as long.
+// The number of the first such record, `count` if there is none before the sheet ends. This is a walk of its own because
+// it is faster so: beside the mark, the compiler would test a label's bytes one by one and no longer all at once.
 pub(crate) fn first_met(sheet: &[u8], section: usize, count: usize, start: usize) -> usize
     requires { ⌜ start ≤ length (now sheet) ⌝ }
     ensures { λ r. ⌜ FirstMet section start count (now (sheet .entry)) r ⌝ }

@@ -23,8 +23,11 @@ mul-result c = search needs
 add-result : tie.Need-add-result
 add-result c = search needs
 
+rem-result : tie.Need-rem-result
+rem-result c = search needs
+
 returns : tie.Need-returns
 returns c = ap₂ (λ (first last : ℕ). (first + 123 * last) % 251) (c .before .u32-at .ensures) (c .u32-at2 .ensures)
 
 pub mark-of-spec : {M : Type 1} → statement M
-mark-of-spec = tie.close (tie.spec u32-at-requires cast-first u32-at-requires-2 cast-last mul-result add-result returns)
+mark-of-spec = tie.close (tie.spec u32-at-requires cast-first u32-at-requires-2 cast-last mul-result add-result rem-result returns)
