@@ -43,6 +43,11 @@ pub both-false : (a b : Bool) → a && b ≡ false → (a ≡ false) ⊎ (b ≡ 
 both-false true b e = inr e
 both-false false b e = inl refl
 
+-- both parts of a false disjunction
+pub neither : (a b : Bool) → a || b ≡ false → (a ≡ false) × (b ≡ false)
+neither true b e = absurd (true≢false e)
+neither false b e = (refl, e)
+
 pub or-true : (b : Bool) → b || true ≡ true
 or-true true = refl
 or-true false = refl

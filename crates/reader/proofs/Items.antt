@@ -2,7 +2,7 @@
 -- accepted item is that of the record it is read as. Assumes nothing.
 use Prim.Native.Nat.{ℕ, _+_, _/_, _%_, _≤_, _<_, _^_}
 use mathlib.Core.Path.{_≡_, refl, sym, ap, _∙_, subst}
-use mathlib.Core.Bool.{Bool, true, false, _||_, true≢false}
+use mathlib.Core.Bool.{true, _||_}
 use mathlib.Core.List.{List, _∷_, _++_}
 use native.Mathlib.Omega.{arith}
 use borrow.Author.Tests.{le-leb, lt-leb, le-ltb, ne-eqb, leb-false, ltb-false, eqb-false}
@@ -10,6 +10,7 @@ use lib.Dec.{eqb, ltb, leb, leb→le, lit<}
 use lib.ListN.{length, getD, take, drop, length-append, length-drop, length-map}
 use lib.Seq.{take-at, drop-at}
 use Rattle.lines.proofs.Computed.{every-below}
+use Rattle.lines.proofs.Truth.{neither}
 use Rattle.peek.specs.Bytes.{Bytes}
 use Rattle.compare.specs.Within.{allWithin}
 use Rattle.buffer.specs.Verdict.{refuseIf}
@@ -154,10 +155,6 @@ first-accepted low at s e =
     let below = ltb (number s) low in
     let due = neither unknown below (refuseIf-accepted (unknown || below) 15 at (andThen-accepted (commandVerdict selectOp at s) _ e .1)) in
     (leb-false sections (sectionAt (number s)) (due .0), ltb-false (number s) low (due .1))
-  where
-    neither : (a b : Bool) → a || b ≡ false → (a ≡ false) × (b ≡ false)
-    neither true b e = absurd (true≢false e)
-    neither false b e = (refl, e)
 
 module _ (low at : ℕ) (s : List ℕ) (e : itemVerdict low at s ≡ Accepted) where
   first-ok : (sectionAt (number s) < sections) × (low ≤ number s)

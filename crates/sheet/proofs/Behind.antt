@@ -1,5 +1,5 @@
 -- What the loop of `check_records` knows of the records that it has passed. Assumes nothing.
-use native.Mathlib.Nat.{add-comm, suc-mul, zero-mul, add-zero, sub-zero}
+use native.Mathlib.Nat.{suc-mul, zero-mul, sub-zero}
 use native.Mathlib.Numerals.{add-one}
 use native.Mathlib.Omega.{arith}
 use borrow.Author.Tests.{eqb-false}

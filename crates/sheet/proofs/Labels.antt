@@ -8,6 +8,7 @@ use mathlib.Core.List.{List, [], _∷_, map}
 use mathlib.Core.Path.{_≡_, refl, sym, ap, _∙_}
 use lib.ListN.{length, getD, take, drop}
 use lib.Seq.{drop-drop, take-take}
+use Rattle.lines.proofs.Truth.{neither}
 use Rattle.compare.specs.Same.{same}
 use Rattle.compare.proofs.Compare.{same-equal, same-false}
 use Rattle.records.specs.Sections.{labelSize, recordSize, labelOf}
@@ -17,10 +18,6 @@ use Rattle.sheet.specs.Reading.{among}
 use Rattle.sheet.specs.Parsed.{LabelsDiffer}
 
 -- ---- one label among those of some records
-
-neither : (a b : Bool) → a || b ≡ false → (a ≡ false) × (b ≡ false)
-neither true b e = absurd (true≢false e)
-neither false b e = (refl, e)
 
 -- none of these records has the label
 abbrev pub Unlike : (label : List ℕ) (rs : List (List ℕ)) → Type 0

@@ -13,7 +13,7 @@ use lib.Seq.{take-at, drop-at, drop-drop}
 use Rattle.buffer.specs.Verdict.{refuseFault}
 use Rattle.buffer.specs.declared.Verdict.the-variants.{Accepted}
 use Rattle.buffer.proofs.Faults.{andThen-accepted, refuseIf-accepted, refuseFault-accepted}
-use Rattle.records.specs.Sections.{sections, mostOf, recordSize, sectionSize, slotOf}
+use Rattle.records.specs.Sections.{sections, mostOf, recordSize, sectionSize}
 use Rattle.sheet.specs.Reading.{leastSlot, recordFault, nextRecord, recordsVerdict, sectionVerdict, sectionsVerdict, verdict}
 use Rattle.records.specs.Records.{recordsFrom}
 use Rattle.sheet.specs.Parsed.{joined, render, Ordered, Sections, WellFormed, sectionsFrom, parse}

@@ -5,7 +5,7 @@ use native.Mathlib.Omega.{arith}
 use Prim.Native.Nat.{ℕ, _+_, _-_, _≤_}
 use mathlib.Core.List.{List, map}
 use mathlib.Core.Path.{_≡_, _∙_, sym, ap}
-use lib.ListN.{length, take, drop, length-take, length-drop}
+use lib.ListN.{length, drop, length-take, length-drop}
 use denote.Ref.{now}
 use Rattle.buffer.specs.declared.Verdict.the-variants.{Refused}
 use Rattle.records.specs.Sections.{recordSize, slotOf, labelOf}
