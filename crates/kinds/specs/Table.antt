@@ -69,7 +69,7 @@ SUMS = 3
 abbrev pub STATES : ℕ
 STATES = 4
 
--- terms: TERM and T, at most 10, address 0x20 + slot, one chain of four words [S1, W4, N3, G3]
+-- terms: TERM and T, at most 10, address 0x20 + slot, one chain of four words [S1, W4, N3, C7, G3]
 abbrev pub termKind : Kind
 termKind =
     record {
@@ -88,7 +88,7 @@ termKind =
       change = λ old new. told (term.telling old new);
     }
 
--- ranges: RANG and R, at most 2, address 0x30 + 2 * slot, two chains of sixteen words [S1, W6, N3]
+-- ranges: RANG and R, at most 2, address 0x30 + 2 * slot, two chains of sixteen words [S1, W6, N3, C7]
 abbrev pub rangeKind : Kind
 rangeKind =
     record {
@@ -107,7 +107,7 @@ rangeKind =
       change = λ old new. told (range-telling.telling old new);
     }
 
--- edges: EDGE and E, at most 2, address 0x34 + slot, one chain of eight words [S1, W11, N3]
+-- edges: EDGE and E, at most 2, address 0x34 + slot, one chain of eight words [S1, W11, N3, C7]
 abbrev pub edgeKind : Kind
 edgeKind =
     record {
@@ -126,7 +126,7 @@ edgeKind =
       change = λ old new. told (edge.telling old new);
     }
 
--- sums: SUMS and S, at most 48, one chain of six words; their change is always OPER [S1, W14, N3, N6]
+-- sums: SUMS and S, at most 48, one chain of six words; their change is always OPER [S1, W14, N3, N6, C7]
 abbrev pub sumKind : Kind
 sumKind =
     record {
@@ -146,7 +146,7 @@ sumKind =
     }
 
 -- states: STAT and Q, at most 16, address the slot, one chain of one word; their change is ALTR without an input
--- [S1, W19, N3, N6, N8]
+-- [S1, W19, N3, N6, N8, C7]
 abbrev pub stateKind : Kind
 stateKind =
     record {

@@ -14,7 +14,8 @@ use Rattle.buffer.specs.declared.Verdict.the-variants.{Accepted, Refused}
 use Rattle.compare.specs.Same.{same}
 use Rattle.records.specs.Sections.{recordSize, slotOf, labelOf}
 use Rattle.records.specs.Records.{recordsFrom}
-use Rattle.sheet.specs.Reading.{among, leastSlot, recordFault, nextRecord, recordsVerdict, FirstMet}
+use Rattle.sheet.specs.Reading.{among, leastSlot, recordFault, nextRecord, recordsVerdict}
+use Rattle.sheet.specs.Repeats.{FirstMet}
 use Rattle.sheet.proofs.Faults.{record-short}
 use Rattle.sheet.proofs.Labels.{among-more}
 use Rattle.sheet.proofs.Reading.{next-faultless, records-end, records-refuse, records-next, next-fits}

@@ -13,7 +13,8 @@ use lib.Seq.{drop-drop, getD-set-same}
 use Rattle.peek.specs.Bytes.{u32At}
 use Rattle.records.specs.Sections.{labelSize, recordSize, labelOf}
 use Rattle.records.specs.Records.{recordsFrom}
-use Rattle.sheet.specs.Reading.{among, metBefore, FirstMet}
+use Rattle.sheet.specs.Reading.{among}
+use Rattle.sheet.specs.Repeats.{metBefore, FirstMet}
 use Rattle.sheet.proofs.Labels.{among-none, records-length, record-at, label-cut}
 
 -- a label's mark

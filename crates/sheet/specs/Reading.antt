@@ -1,17 +1,15 @@
 -- What reading a sheet gives: the first fault from left to right. `rest` is what is still to be read, and `at` its
 -- offset in the sheet.
-use Prim.Native.Nat.{ℕ, zero, suc, _+_, _*_, _≤_, _<_}
+use Prim.Native.Nat.{ℕ, zero, suc, _+_}
 use mathlib.Core.Bool.{Bool, false, not, _||_}
 use mathlib.Core.List.{List, [], _∷_, map}
-use mathlib.Core.Path.{_≡_}
-use lib.Dec.{eqb, ltb, leb}
+use lib.Dec.{ltb, leb}
 use lib.ListN.{length, getD, take, drop}
 use Rattle.compare.specs.Same.{same}
 use Rattle.compare.specs.Within.{allWithin}
 use Rattle.buffer.specs.Verdict.{andThen, refuseIf, refuseFault}
 use Rattle.buffer.specs.declared.Verdict.{Verdict}
 use Rattle.buffer.specs.declared.Verdict.the-variants.{Accepted}
-use Rattle.records.specs.Records.{recordsFrom}
 use Rattle.records.specs.Sections.{faultIf, sections, mostOf, recordSize, sectionSize, descriptionFault, slotOf, labelOf, descriptionOf}
 
 -- whether a label is one of these, all its bytes compared [S4]
@@ -45,16 +43,6 @@ recordsVerdict k zero before at rest = Accepted
 recordsVerdict k (suc n) before at rest =
     andThen (refuseFault (recordFault k before (nextRecord k rest)) at)
     (recordsVerdict k n (nextRecord k rest ∷ before) (at + recordSize k) (drop (recordSize k) rest))
-
--- whether the label of record i of section k, whose records start at `start`, is that of an earlier one [F19]
-abbrev pub metBefore : (k start : ℕ) (s : List ℕ) (i : ℕ) → Bool
-metBefore k start s i =
-    among (labelOf (take (recordSize k) (drop (start + i * recordSize k) s))) (map labelOf (recordsFrom k i (drop start s)))
-
--- r is the first of `count` records of which that holds; of those past the sheet's end nothing is said [F19]
-abbrev pub FirstMet : (k start count : ℕ) (s : List ℕ) (r : ℕ) → Type 0
-FirstMet k start count s r =
-    (i : ℕ) → i ≤ r → i < count → start + (i + 1) * recordSize k ≤ length s → metBefore k start s i ≡ eqb i r
 
 -- the count of section k is missing, or above the section's most; the place is the count [O2, F1, F2]
 unfoldable pub countVerdict : ℕ → ℕ → List ℕ → Verdict

@@ -8,7 +8,8 @@ ghost use Rattle.peek.specs.Bytes.{u32At};
 ghost use Rattle.compare.specs.Same.{same};
 ghost use Rattle.records.specs.Sections.{recordSize, labelOf};
 ghost use Rattle.records.specs.Records.{recordsFrom};
-ghost use Rattle.sheet.specs.Reading.{among, FirstMet};
+ghost use Rattle.sheet.specs.Reading.{among};
+ghost use Rattle.sheet.specs.Repeats.{FirstMet};
 use records::LABEL_SIZE;
 use records::record_size;
 
