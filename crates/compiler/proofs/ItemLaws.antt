@@ -12,6 +12,7 @@ use lib.ListN.{length, getD, take, drop, replicate, length-append, length-drop}
 use Rattle.command.specs.Command.{chain, Words}
 use Rattle.command.proofs.Written.{length-chain}
 use Rattle.records.specs.Sections.{sections, kindOf, mostOf, slotOf, descriptionOf}
+use Rattle.records.proofs.Bounds.{times}
 use Rattle.kinds.specs.Table.{wordsOf, chainCount, chainLength, pieces}
 use Rattle.kinds.proofs.Rows.{past, at-most}
 use Rattle.kinds.proofs.Ways as ways
@@ -54,9 +55,6 @@ chains-length address (words ∷ more) =
 pub item-length : (k : ℕ) (r : List ℕ) → length (item k r) ≡ itemSize k
 unfolding item itemSize
 item-length k r = chains-length (addressOf k (slotOf r)) (chainsOf k (descriptionOf r)) ∙ ap sizeOf (chains-lengths k (descriptionOf r))
-
-pub times : (c m : ℕ) → suc c * m ≡ m + c * m
-times c m = omega arith
 
 -- so many chains of as many words each
 pub size-chains : (c n : ℕ) → sizeOf (replicate c n) ≡ c * (5 + 5 * n)
@@ -116,10 +114,6 @@ pub chains-over : (address left each : ℕ) (ws : List ℕ) → left ≤ 0 → c
 unfolding chainsFrom pieces
 chains-over address zero each ws h = refl
 chains-over address (suc left) each ws h = absurd (omega arith)
-
-pub left-less : (left m : ℕ) → 0 < left → left * m ≡ m + (left - 1) * m
-left-less zero m h = absurd (omega arith)
-left-less (suc left) m h = let e : suc left - 1 ≡ left = omega arith in times left m ∙ ap (λ (n : ℕ). m + n * m) (sym e)
 
 -- all of them together
 pub chains-size : (address count each : ℕ) (ws : List ℕ) → count * each ≤ length ws

@@ -18,7 +18,7 @@ use Rattle.buffer.proofs.Writing.{wrote, lent, length-write}
 use Rattle.kinds.specs.Table.{sections, kindOf, mostOf, descriptionSize, descriptionRead}
 use Rattle.kinds.proofs.Ways as ways
 use Rattle.records.specs.Sections.{recordSize, sectionSize}
-use Rattle.compiler.proofs.ItemLaws.{times}
+use Rattle.records.proofs.Bounds.{times}
 use Rattle.reader.specs.Back.{labelFor}
 use Rattle.reader.specs.Taking.{partSize, countIn, partOf, partsFrom, kept}
 

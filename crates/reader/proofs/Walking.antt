@@ -5,7 +5,6 @@ use mathlib.Core.Path.{_≡_, refl, sym, ap, ap₂, _∙_, subst}
 use mathlib.Core.List.{List, [], _∷_, _++_, append-assoc, append-nil}
 use native.Mathlib.Decide.{decLt, ℕ-discrete}
 use native.Mathlib.Nat.{le-refl, mul-le-mul, zero-mul}
-use native.Mathlib.Numerals.{add-one}
 use native.Mathlib.Omega.{arith}
 use borrow.Author.Tests.{eq-eqb, ne-eqb}
 use lib.Dec.{eqb}
@@ -23,7 +22,7 @@ use Rattle.records.specs.Sections.{recordSize}
 use Rattle.sheet.specs.Parsed.{joined, render}
 use Rattle.compiler.specs.Items.{itemSize}
 use Rattle.compiler.specs.Chains.{wordsRead}
-use Rattle.compiler.proofs.ItemLaws.{times}
+use Rattle.records.proofs.Bounds.{times, one-more}
 use Rattle.reader.specs.Judging.{descriptionIn, firstVerdict, chainsVerdict, itemVerdict, stepSize, rests, itemsVerdict, streamVerdict}
 use Rattle.reader.specs.Back.{labelFor, recordIn, recordsOf, sectionsOf, sheetIn}
 use Rattle.reader.specs.Taking.{partSize, countIn, partOf, partsFrom, kept, Empty, Walked}
@@ -186,7 +185,7 @@ module _ (s : List ℕ) (low at : ℕ) (room : List ℕ) (w : Walking s low at r
           let size : length (joined (kp .rs ++ (x ∷ []))) ≡ length (joined (kp .rs)) + length x =
           ap length (joined-more (kp .rs) x) ∙ length-append (joined (kp .rs)) x in
           let one : (length (kp .rs) + 1) * recordSize k ≡ recordSize k + length (kp .rs) * recordSize k =
-          ap (λ (n : ℕ). n * recordSize k) (add-one (length (kp .rs))) ∙ times (length (kp .rs)) (recordSize k) in
+          one-more (length (kp .rs)) (recordSize k) in
           record {
             rs = kp .rs ++ (x ∷ []);
             holds = holds-more k slot (descriptionIn (drop at s)) room walking-known (w .size) walking-room whole (kp .rs) (kp .holds) (kp .even);

@@ -1,5 +1,5 @@
 -- What the loop of `check_records` knows of the records that it has passed. Assumes nothing.
-use native.Mathlib.Nat.{suc-mul, zero-mul, sub-zero}
+use native.Mathlib.Nat.{zero-mul, sub-zero}
 use native.Mathlib.Numerals.{add-one}
 use native.Mathlib.Omega.{arith}
 use borrow.Author.Tests.{eqb-false}
@@ -14,6 +14,7 @@ use Rattle.buffer.specs.declared.Verdict.the-variants.{Accepted, Refused}
 use Rattle.compare.specs.Same.{same}
 use Rattle.records.specs.Sections.{recordSize, slotOf, labelOf}
 use Rattle.records.specs.Records.{recordsFrom}
+use Rattle.records.proofs.Bounds.{one-more}
 use Rattle.sheet.specs.Reading.{among, leastSlot, recordFault, nextRecord, recordsVerdict}
 use Rattle.sheet.specs.Repeats.{FirstMet}
 use Rattle.sheet.proofs.Faults.{record-short}
@@ -55,7 +56,7 @@ module _ (k count start : ℕ) (s : List ℕ) where
     behind-met r first l h fits =
         b .labels (labelOf (nextRecord k (drop at s)))
         ∙ ap (λ (n : ℕ). among (labelOf (take (recordSize k) (drop n s))) (map labelOf (recordsFrom k done (drop start s)))) (b .here)
-        ∙ first done l h (omega (arith, b .here, fits, suc-mul done (recordSize k), ap (λ (n : ℕ). n * recordSize k) (add-one done)))
+        ∙ first done l h (omega (arith, b .here, fits, one-more done (recordSize k)))
 
     pub behind-end : count ≤ done → recordsVerdict k count [] start (drop start s) ≡ Accepted
     behind-end h =
@@ -107,7 +108,7 @@ module _ (k count start : ℕ) (s : List ℕ) where
               low = refl;
               labels = more-labels;
               few = omega arith;
-              here = omega (arith, b .here, suc-mul done (recordSize k), ap (λ (n : ℕ). n * recordSize k) (add-one done));
+              here = omega (arith, b .here, one-more done (recordSize k));
               fits = next-there;
               left =
                   b .left

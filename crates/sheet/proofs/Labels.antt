@@ -1,6 +1,6 @@
 -- Labels met before: records of which none has an earlier one's label are those whose labels pairwise differ. Assumes
 -- nothing.
-use native.Mathlib.Nat.{add-comm, suc-mul, zero-mul}
+use native.Mathlib.Nat.{zero-mul}
 use native.Mathlib.Omega.{arith}
 use Prim.Native.Nat.{ℕ, zero, suc, _+_, _-_, _*_, _<_}
 use mathlib.Core.Bool.{Bool, true, false, _||_, true≢false}
@@ -13,6 +13,7 @@ use Rattle.compare.specs.Same.{same}
 use Rattle.compare.proofs.Compare.{same-equal, same-false}
 use Rattle.records.specs.Sections.{labelSize, recordSize, labelOf}
 use Rattle.records.specs.Records.{recordsFrom}
+use Rattle.records.proofs.Bounds.{times}
 use Rattle.records.proofs.Records.{drop-take}
 use Rattle.sheet.specs.Reading.{among}
 use Rattle.sheet.specs.Parsed.{LabelsDiffer}
@@ -85,13 +86,17 @@ unfolding recordsFrom
 records-length k zero rest = refl
 records-length k (suc n) rest = ap suc (records-length k n (drop (recordSize k) rest))
 
+-- behind the first of them, and n more
+further : (n size : ℕ) (rest : List ℕ) → drop (n * size) (drop size rest) ≡ drop (suc n * size) rest
+further n size rest = drop-drop (n * size) size rest ∙ ap (λ (m : ℕ). drop m rest) (sym (times n size))
+
 pub record-at : (k n : ℕ) (rest : List ℕ) (i : ℕ) → i < n → getD (recordsFrom k n rest) i [] ≡ take (recordSize k) (drop (i * recordSize k) rest)
 unfolding recordsFrom
 record-at k zero rest i h = absurd (omega arith)
 record-at k (suc n) rest zero h = rw (zero-mul (recordSize k))
 record-at k (suc n) rest (suc i) h =
     record-at k n (drop (recordSize k) rest) i (omega arith)
-    ∙ ap (take (recordSize k)) (drop-drop (i * recordSize k) (recordSize k) rest ∙ ap (λ (m : ℕ). drop m rest) (add-comm (recordSize k) (i * recordSize k) ∙ sym (suc-mul i (recordSize k))))
+    ∙ ap (take (recordSize k)) (further i (recordSize k) rest)
 
 -- ---- the walk over the earlier records
 
@@ -111,14 +116,7 @@ among-more label k (suc n) rest =
     let here = same label (labelOf (take size rest)) in
     let far = same label (labelOf (take size (drop (n * size) (drop size rest)))) in
     let later = among label (map labelOf (recordsFrom k n (drop size rest))) in
-    let moved : drop (n * size) (drop size rest) ≡ drop (suc n * size) rest =
-    drop-drop (n * size) size rest ∙ ap (λ (m : ℕ). drop m rest) (add-comm size (n * size) ∙ sym (suc-mul n size)) in
-    rw (← moved) (ap (λ (b : Bool). here || b) (among-more label k n (drop size rest)) ∙ or-moved here far later)
-
--- the first of n records, and the others
-pub first-size : (n size : ℕ) → 0 < n → n * size ≡ size + (n - 1) * size
-first-size zero size h = absurd (omega arith)
-first-size (suc n) size h = let p : suc n - 1 ≡ n = omega arith in rw (p, suc-mul n size) (add-comm (n * size) size)
+    rw (← further n size rest) (ap (λ (b : Bool). here || b) (among-more label k n (drop size rest)) ∙ or-moved here far later)
 
 -- a record's label is that of what begins with it
 pub label-cut : (k : ℕ) (rest : List ℕ) → labelOf (take (recordSize k) rest) ≡ take labelSize (drop 1 rest)

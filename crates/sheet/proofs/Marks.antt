@@ -1,6 +1,5 @@
 -- What the loop of `first_met` knows of the labels that it has passed: each is new, and its mark is set. Assumes nothing.
-use native.Mathlib.Nat.{suc-mul, zero-mul, mul-le-mul-right}
-use native.Mathlib.Numerals.{add-one}
+use native.Mathlib.Nat.{zero-mul, mul-le-mul-right}
 use native.Mathlib.Decide.{decLt, ℕ-discrete}
 use native.Mathlib.Omega.{arith}
 use borrow.Author.Tests.{eq-eqb, ne-eqb}
@@ -13,6 +12,7 @@ use lib.Seq.{drop-drop, getD-set-same}
 use Rattle.peek.specs.Bytes.{u32At}
 use Rattle.records.specs.Sections.{labelSize, recordSize, labelOf}
 use Rattle.records.specs.Records.{recordsFrom}
+use Rattle.records.proofs.Bounds.{one-more}
 use Rattle.sheet.specs.Reading.{among}
 use Rattle.sheet.specs.Repeats.{metBefore, FirstMet}
 use Rattle.sheet.proofs.Labels.{among-none, records-length, record-at, label-cut}
@@ -73,8 +73,7 @@ module _ (k start count : ℕ) (s : List ℕ) where
           | no later ↦
               let later-by-one : done + 1 ≤ i + 1 = omega arith in
               let more = mul-le-mul-right (recordSize k) later-by-one in
-              let next = suc-mul done (recordSize k) in
-              absurd (omega (arith, p .here, more, next, ap (λ (n : ℕ). n * recordSize k) (add-one done)))
+              absurd (omega (arith, p .here, more, one-more done (recordSize k)))
         ]
 
     pub passed-end : count ≤ done → FirstMet k start count s count
@@ -94,7 +93,7 @@ module _ (k start count : ℕ) (s : List ℕ) where
     passed-next fresh fits =
         record {
           size = length-set marks (mark (labelAt k start s done)) true ∙ p .size;
-          here = omega (arith, p .here, suc-mul done (recordSize k), ap (λ (n : ℕ). n * recordSize k) (add-one done));
+          here = omega (arith, p .here, one-more done (recordSize k));
           fits = fits;
           marked = λ i l. more i (ℕ-discrete i done) l;
           new = λ i l. elim (ℕ-discrete i done) [ yes e ↦ rw e fresh | no n ↦ p .new i (omega arith) ];

@@ -1,6 +1,6 @@
 -- `compiler::put_chains` meets its contract. The loop's invariant: `left` chains, of the words from `from` on, are still to be written from `at` on. Assumes nothing.
-use Prim.Native.Nat.{ℕ, zero-le, _+_, _*_, _-_, _≤_, _<_}
-use mathlib.Core.Path.{_≡_, refl, sym, ap, _∙_}
+use Prim.Native.Nat.{ℕ, _+_, _*_, _-_, _≤_, _<_}
+use mathlib.Core.Path.{_≡_, sym, ap}
 use mathlib.Core.List.{List, []}
 use native.Mathlib.Omega.{arith}
 use native.Mathlib.Nat.{mul-le-mul}
@@ -10,7 +10,8 @@ use Rattle.buffer.specs.Room.{fill}
 use Rattle.buffer.proofs.Writing.{wrote, too-short, delivers, Pending, pending-start, pending-step, pending-end}
 use Rattle.kinds.specs.Table.{pieces}
 use Rattle.compiler.proofs.Joined.{chainsFrom, chains-joined}
-use Rattle.compiler.proofs.ItemLaws.{chains-size, chains-step, chains-over, chain-size, left-less}
+use Rattle.records.proofs.Bounds.{left-less}
+use Rattle.compiler.proofs.ItemLaws.{chains-size, chains-step, chains-over, chain-size}
 use borrow.Author.Needs.{needs}
 use Rattle.compiler.proofs.items.put_chains.Statement.{statement}
 use Rattle.compiler.proofs.items.put_chains.Tie as tie

@@ -11,7 +11,7 @@ use Rattle.buffer.proofs.Faults.{andThen-stop, andThen-go}
 use Rattle.kinds.specs.Table.{lengthsOf}
 use Rattle.kinds.proofs.Rows.{chains-few}
 use Rattle.compiler.specs.Chains.{wordsRead}
-use Rattle.compiler.proofs.ItemLaws.{left-less}
+use Rattle.records.proofs.Bounds.{left-less}
 use Rattle.reader.specs.Judging.{chainsVerdict}
 use Rattle.reader.proofs.Judged.{chains-turn, chains-end, chain-within}
 use Rattle.reader.proofs.Taking.{words-more, words-over, total-of}

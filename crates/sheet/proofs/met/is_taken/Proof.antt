@@ -12,7 +12,8 @@ use Rattle.compare.specs.Same.{same}
 use Rattle.records.specs.Sections.{labelSize, recordSize, labelOf}
 use Rattle.records.specs.Records.{recordsFrom}
 use Rattle.sheet.specs.Reading.{among}
-use Rattle.sheet.proofs.Labels.{first-size, among-first, among-end}
+use Rattle.records.proofs.Bounds.{left-less}
+use Rattle.sheet.proofs.Labels.{among-first, among-end}
 use Rattle.sheet.proofs.met.is_taken.Statement.{statement}
 use Rattle.sheet.proofs.met.is_taken.Tie as tie
 
@@ -75,7 +76,7 @@ returns c = sym (here (c .before) ∙ rw (c .if1 .taken))
 add-at : tie.Need-add-at Inv-loop μ-loop
 add-at c =
     let l = c .before .before .before .before .loop in
-    omega (arith, l .inv .0, l .inv .1, first-size (l .left) (recordSize (c .before .before .before .before .before .before .before .before .before .args .section)) (omega arith))
+    omega (arith, l .inv .0, l .inv .1, left-less (l .left) (recordSize (c .before .before .before .before .before .before .before .before .before .args .section)) (omega arith))
 
 sub-left : tie.Need-sub-left Inv-loop μ-loop
 sub-left c = search needs
@@ -88,7 +89,7 @@ loop-again c =
     let l = c .before .before .before .before .loop in
     let a = c .before .before .before .before .before .before .before .before .before .args in
     let later : ℕ → Bool = λ n. among (now (a .label)) (map labelOf (recordsFrom (a .section) (l .left - 1) (drop (l .at + n) (now (a .sheet))))) in
-    (l .inv .0, omega (arith, l .inv .0, l .inv .1, first-size (l .left) (recordSize (a .section)) (omega arith)), here (c .before) ∙ rw (c .if1 .left) (ap later (sym (l .inv .0))))
+    (l .inv .0, omega (arith, l .inv .0, l .inv .1, left-less (l .left) (recordSize (a .section)) (omega arith)), here (c .before) ∙ rw (c .if1 .left) (ap later (sym (l .inv .0))))
 
 returns-2 : tie.Need-returns-2 Inv-loop μ-loop
 returns-2 c =
