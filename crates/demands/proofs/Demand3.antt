@@ -23,7 +23,7 @@ use Rattle.kinds.specs.declared.Change.{Change}
 use Rattle.kinds.specs.declared.Change.the-variants.{Altr}
 use Rattle.records.specs.Sections.{descriptionOf}
 use Rattle.sheet.specs.Reading.{verdict}
-use Rattle.sheet.specs.Parsed.{parse, AcceptedDescription}
+use Rattle.sheet.specs.Parsed.{parse, recordWith, AcceptedDescription}
 use Rattle.sheet.proofs.Descriptions.{description-known}
 use Rattle.sheet.proofs.Theorems.{section-count, section-record}
 use Rattle.compiler.specs.Chains.{chainWordsOf}
@@ -38,7 +38,7 @@ use Rattle.notice.specs.declared.Noticed.the-variants.{Done}
 use Rattle.notice.specs.Findings.{line}
 use Rattle.notice.specs.Text.{render}
 use Rattle.notice.specs.Notice.{noticeLines, noticeText, longestNotice, NoticeGiven}
-use Rattle.notice.specs.Shared.{recordOf, Has, Shared, descriptionAt}
+use Rattle.notice.specs.Shared.{Has, Shared, descriptionAt}
 use Rattle.demands.specs.Apart.{SomeInputTells}
 use Rattle.demands.specs.Written.{linesIn, written, Stands, AlterationIn}
 use Rattle.demands.proofs.EqualWords as words
@@ -147,13 +147,13 @@ module _ (old new : List ℕ) (bo : Bytes old) (bn : Bytes new) (ao : verdict ol
   state-has-no-other-line slot c s i = lines.state-line-alone old new bo bn ao an slot c (stands-iff STATES slot (Changed c) (lit< tt) s .0 i)
 
   -- a slot that one sheet alone has gets NEW or GONE, and no other slot does [D3.8]
-  pub new-line : (k slot : ℕ) → k < sections → Stands (written r out′) k slot New ↔ ((recordOf k slot old ≡ []) × Has k slot new)
+  pub new-line : (k slot : ℕ) → k < sections → Stands (written r out′) k slot New ↔ ((recordWith k slot old ≡ []) × Has k slot new)
   new-line k slot hk =
       let there = stands-iff k slot New hk tt in
       let says = lines.line-iff old new bo bn ao an k slot New hk in
       (λ i. says .0 (there .0 i), λ g. there .1 (says .1 g))
 
-  pub gone-line : (k slot : ℕ) → k < sections → Stands (written r out′) k slot Gone ↔ (Has k slot old × (recordOf k slot new ≡ []))
+  pub gone-line : (k slot : ℕ) → k < sections → Stands (written r out′) k slot Gone ↔ (Has k slot old × (recordWith k slot new ≡ []))
   gone-line k slot hk =
       let there = stands-iff k slot Gone hk tt in
       let says = lines.line-iff old new bo bn ao an k slot Gone hk in

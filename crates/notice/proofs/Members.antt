@@ -12,13 +12,13 @@ use Rattle.compare.proofs.Compare.{same-refl, same-false}
 use Rattle.kinds.specs.Table.{changeOf}
 use Rattle.records.specs.Sections.{sections, mostOf, labelOf, descriptionOf}
 use Rattle.records.specs.Records.{find}
-use Rattle.sheet.specs.Parsed.{parse}
+use Rattle.sheet.specs.Parsed.{parse, recordWith}
 use Rattle.notice.specs.declared.Finding.{Finding}
 use Rattle.notice.specs.declared.Finding.the-variants.{New, Gone, Name, Changed}
 use Rattle.notice.specs.declared.Line.{Line}
 use Rattle.notice.specs.Findings.{line, unlessSame, sharedLines, slotLines}
 use Rattle.notice.specs.Notice.{linesFrom, sectionsLines, noticeLines}
-use Rattle.notice.specs.Shared.{recordOf, Gives}
+use Rattle.notice.specs.Shared.{Gives}
 
 -- ---- a slot's lines are of its section and slot
 
@@ -96,7 +96,7 @@ sections-to (suc n) j k p q l h b i =
 -- a line for a slot is in the notice exactly if it is a line of the slot's two records
 notice-line : (old new : List ℕ) (k s : ℕ) (f : Finding)
     → List·Memᴰ (line k s f) (noticeLines old new)
-    ↔ ((k < sections) × (s < mostOf k) × List·Memᴰ (line k s f) (slotLines k s (recordOf k s old) (recordOf k s new)))
+    ↔ ((k < sections) × (s < mostOf k) × List·Memᴰ (line k s f) (slotLines k s (recordWith k s old) (recordWith k s new)))
 unfolding noticeLines
 notice-line old new k s f = (
   (λ i.
@@ -155,7 +155,7 @@ slot-to k s (x ∷ o) (y ∷ n) (Changed c) h =
 
 -- a line is in the notice exactly if what it says of its slot holds
 pub line-iff : (old new : List ℕ) (k s : ℕ) (f : Finding)
-    → List·Memᴰ (line k s f) (noticeLines old new) ↔ ((k < sections) × (s < mostOf k) × Gives k (recordOf k s old) (recordOf k s new) f)
+    → List·Memᴰ (line k s f) (noticeLines old new) ↔ ((k < sections) × (s < mostOf k) × Gives k (recordWith k s old) (recordWith k s new) f)
 line-iff old new k s f = (
   (λ i. let h = notice-line old new k s f .0 i in (h .0, h .1, slot-from k s _ _ f (h .2))),
   (λ h. notice-line old new k s f .1 (h .0, h .1, slot-to k s _ _ f (h .2))),

@@ -2,21 +2,15 @@
 use mathlib.Core.List.{List, []}
 use mathlib.Core.Path.{_≡_}
 use Prim.Native.Nat.{ℕ}
-use lib.ListN.{getD}
 use Rattle.kinds.specs.Table.{changeOf}
 use Rattle.records.specs.Sections.{labelOf, descriptionOf}
-use Rattle.records.specs.Records.{find}
-use Rattle.sheet.specs.Parsed.{parse}
+use Rattle.sheet.specs.Parsed.{recordWith}
 use Rattle.notice.specs.declared.Finding.{Finding}
 use Rattle.notice.specs.declared.Finding.the-variants.{New, Gone, Name, Changed}
 
--- the record of a sheet that has this slot in section k, at whatever place; no bytes if none has [G9, B7]
-abbrev pub recordOf : (k slot : ℕ) (sheet : List ℕ) → List ℕ
-recordOf k slot sheet = find slot (getD (parse sheet) k [])
-
 -- a sheet has a slot in section k [G9, D3.8]
 abbrev pub Has : (k slot : ℕ) (sheet : List ℕ) → Type 0
-Has k slot sheet = recordOf k slot sheet ≡ [] → ⊥
+Has k slot sheet = recordWith k slot sheet ≡ [] → ⊥
 
 -- both sheets have the slot in this section (*shared slot* is the buyer's term) [G9, D3.5, D3.9]
 abbrev pub Shared : (k slot : ℕ) (old new : List ℕ) → Type 0
@@ -24,7 +18,7 @@ Shared k slot old new = Has k slot old × Has k slot new
 
 -- the description that a sheet has in a slot [G1, G9]
 abbrev pub descriptionAt : (k slot : ℕ) (sheet : List ℕ) → List ℕ
-descriptionAt k slot sheet = descriptionOf (recordOf k slot sheet)
+descriptionAt k slot sheet = descriptionOf (recordWith k slot sheet)
 
 -- what such a line says of the two records of a slot in section k; no bytes where a sheet has none [N4, N5, N6, N7, B7]
 abbrev pub Gives : (k : ℕ) (old new : List ℕ) → Finding → Type 0

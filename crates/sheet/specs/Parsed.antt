@@ -10,7 +10,7 @@ use Rattle.compare.specs.Within.{allWithin}
 use Rattle.buffer.specs.declared.Verdict.the-variants.{Accepted}
 use Rattle.records.specs.Sections.{sections, mostOf, recordSize, sectionSize, descriptionFault, slotOf, labelOf, descriptionOf}
 use Rattle.sheet.specs.Reading.{verdict}
-use Rattle.records.specs.Records.{recordAt, recordCount, recordsFrom}
+use Rattle.records.specs.Records.{recordAt, recordCount, recordsFrom, find}
 use Rattle.sheet.specs.Parts.{sectionOf}
 
 -- records one behind the other [S1]
@@ -69,6 +69,10 @@ sectionsFrom (suc n) k rest =
 -- the sections of a sheet and their records [S11, S12]
 unfoldable pub parse : List ℕ → List (List (List ℕ))
 parse s = sectionsFrom sections 0 s
+
+-- the record of a sheet that has this slot in section k, at whatever place; no bytes if none has [G9, B7]
+abbrev pub recordWith : (k slot : ℕ) (sheet : List ℕ) → List ℕ
+recordWith k slot sheet = find slot (getD (parse sheet) k [])
 
 -- an accepted sheet has d in a record of section k (*accepted* is the buyer's term) [G2]
 pub record AcceptedDescription (k : ℕ) (d : List ℕ) : Type 0 where

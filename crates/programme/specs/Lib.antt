@@ -1,0 +1,3 @@
+pub mod Programme
+pub mod Machine
+pub mod Table
