@@ -6,10 +6,10 @@ use native.Mathlib.Omega.{arith}
 use native.Mathlib.Nat.{add-zero, add-assoc, mul-le-mul-right}
 use lib.ListN.{length, getD, length-append, List·getD-append}
 use lib.Seq.{getD-append-add}
-use Rattle.kinds.specs.Table.{sections, mostOf}
+use Rattle.kinds.specs.Table.{sections, mostOf, entrySize}
 use Rattle.records.specs.Records.{find}
 use Rattle.records.proofs.Bounds.{one-more}
-use Rattle.programme.specs.Table.{entrySize, entryFor, entriesFrom, tableFrom, tableOf}
+use Rattle.programme.specs.Table.{entryFor, entriesFrom, tableFrom, tableOf}
 use Rattle.programme.proofs.Rows.{entry-length}
 
 pub entries-length : (n slot k : ℕ) (rs : List (List ℕ)) → length (entriesFrom n slot k rs) ≡ n * entrySize k

@@ -5,19 +5,19 @@ use mathlib.Core.List.{List}
 use lib.ListN.{length}
 use Rattle.peek.specs.Bytes.{Bytes}
 use Rattle.buffer.specs.declared.Verdict.the-variants.{Accepted}
-use Rattle.kinds.specs.Table.{mostOf, kindOf}
+use Rattle.kinds.specs.Table.{mostOf, kindOf, entrySize, missingOf}
 use Rattle.sheet.specs.Reading.{verdict}
 use Rattle.sheet.specs.Parsed.{parse}
 use Rattle.programme.specs.Programme.{programmeOf}
 use Rattle.programme.specs.Machine.{throughWords, byRules, Agree}
-use Rattle.programme.specs.Table.{tableOf, tableLength, plain, entrySize, entryRow}
+use Rattle.programme.specs.Table.{tableOf, tableLength, plain}
 use Rattle.programme.proofs.Lookup.{table-count}
 use Rattle.programme.proofs.Rules.{words-by-rules}
 use Rattle.programme.proofs.Looked.{table-by-rules}
 
 -- the table of any sheet has 336 numbers [R11]
 pub table-length : (p : List (List (List ℕ))) → length (tableOf p) ≡ tableLength
-unfolding mostOf kindOf entrySize entryRow
+unfolding mostOf kindOf entrySize missingOf
 table-length p = table-count p
 
 module _ (s : List ℕ) (b : Bytes s) (ok : verdict s ≡ Accepted) where

@@ -4,7 +4,7 @@ use mathlib.Core.Path.{ap, _∙_}
 use Prim.Native.Nat.{ℕ}
 use denote.Ref.{now}
 use Rattle.buffer.proofs.Writing.{delivers}
-use Rattle.programme.specs.Table.{entryRow}
+use Rattle.kinds.specs.Table.{entryOf}
 use Rattle.programme.proofs.Rows.{entry-none, entry-some}
 use borrow.Author.Needs.{needs}
 use Rattle.programme.proofs.entries.put_slot.Statement.{statement}
@@ -33,7 +33,7 @@ same-length-2 c = search needs
 returns-2 : tie.Need-returns-2
 returns-2 c =
     let a = c .before .before .before .before .before .before .before .before .args in
-    delivers (ap (λ (d : List ℕ). entryRow (a .section) .of d) (c .before .before .before .description .ensures) ∙ entry-some (a .section) (now (a .rec)) (c .before .before .before .before .before .if1 .left)) (c .before .before .put-entry .ensures)
+    delivers (ap (entryOf (a .section)) (c .before .before .before .description .ensures) ∙ entry-some (a .section) (now (a .rec)) (c .before .before .before .before .before .if1 .left)) (c .before .before .put-entry .ensures)
 
 pub put-slot-spec : {M : Type 1} → statement M
 put-slot-spec =

@@ -9,7 +9,9 @@ use Rattle.buffer.proofs.Left.{wrote-lent}
 use Rattle.kinds.proofs.Rows.{most-byte}
 use Rattle.records.specs.Sections.{mostOf}
 use Rattle.sheet.proofs.Cursors.{cursor-fits}
-use Rattle.programme.specs.Table.{entrySize, entryFor}
+use Rattle.kinds.specs.declared.Row.{Row}
+use Rattle.kinds.specs.Table.{entrySize}
+use Rattle.programme.specs.Table.{entryFor}
 use Rattle.programme.proofs.Rows.{entry-length}
 use Rattle.programme.proofs.Filling.{Filling, filling-start, filling-room, filling-turn, filling-end}
 use borrow.Author.Needs.{needs}
@@ -23,19 +25,17 @@ Inv-loop out₀ from section part most step at₀ i₀ slot₀ out at i slot =
 abbrev μ-loop : tie.MeasureT-loop
 μ-loop out₀ from section part most step at₀ i₀ slot₀ out at i slot = most - slot
 
-most-requires : tie.Need-most-requires Inv-loop μ-loop
-most-requires c κs = search needs
-
-entry-size-requires : tie.Need-entry-size-requires Inv-loop μ-loop
-entry-size-requires c κs = search needs
+row-of-requires : tie.Need-row-of-requires Inv-loop μ-loop
+row-of-requires c κs = search needs
 
 loop-holds : tie.Need-loop-holds Inv-loop μ-loop
 loop-holds c =
-    let start = c .before .before .before .before in
-    (c .before .most .ensures, c .entry-size .ensures, filling-start (start .args .section) (start .args .from) (now (start .args .part)) (now (start .args .out)) (start .pre .1) (start .pre .0))
+    let start = c .before .before .before in
+    let row = c .row-of .ensures in
+    (ap (λ (r : Row). r .most) row, ap (λ (r : Row). r .entry) row, filling-start (start .args .section) (start .args .from) (now (start .args .part)) (now (start .args .out)) (start .pre .1) (start .pre .0))
 
 cast-record-with : tie.Need-cast-record-with Inv-loop μ-loop
-cast-record-with c = omega (arith, most-byte (c .before .before .before .before .before .before .args .section))
+cast-record-with c = omega (arith, most-byte (c .before .before .before .before .before .args .section))
 
 record-with-requires : tie.Need-record-with-requires Inv-loop μ-loop
 record-with-requires c κs = search needs
@@ -43,7 +43,7 @@ record-with-requires c κs = search needs
 -- the record of the slot that is due: its entry fits, and the next entry begins behind it
 module _ (p : tie.After-record-with Inv-loop μ-loop) where
   abbrev start : tie.Start Inv-loop μ-loop
-  start = p .before .before .before .before .before .before .before
+  start = p .before .before .before .before .before .before
 
   abbrev k : ℕ
   k = start .args .section
@@ -58,7 +58,7 @@ module _ (p : tie.After-record-with Inv-loop μ-loop) where
   fits =
       filling-room k _ (now (start .args .part)) _ _ _ _ _ rec (p .before .before .loop .inv .2) due (p .record-with .ensures)
 
-  size : p .before .before .before .entry-size .result ≡ length (entryFor k rec)
+  size : p .before .before .before .row-of .result .entry ≡ length (entryFor k rec)
   size = p .before .before .loop .inv .1 ∙ sym (entry-length k rec)
 
   cursor : p .before .before .loop .i + length rec ≤ length (now (start .args .part))
@@ -115,8 +115,7 @@ put-section-spec =
     (tie.spec
     Inv-loop
     μ-loop
-    most-requires
-    entry-size-requires
+    row-of-requires
     loop-holds
     cast-record-with
     record-with-requires

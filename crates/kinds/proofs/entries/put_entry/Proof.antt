@@ -6,12 +6,11 @@ use native.Mathlib.Omega.{arith}
 use lib.Bits.{bitAnd}
 use Rattle.lines.specs.Gather.{scattered}
 use Rattle.buffer.proofs.Writing.{delivers, nothing}
-use Rattle.kinds.specs.Table.{wordsOf, kindOf}
-use Rattle.programme.specs.Table.{entryRow}
-use Rattle.programme.proofs.Rows.{row-past}
+use Rattle.kinds.specs.Table.{entryOf, kindOf}
+use Rattle.kinds.proofs.Rows.{past}
 use borrow.Author.Needs.{needs}
-use Rattle.programme.proofs.entries.put_entry.Statement.{statement}
-use Rattle.programme.proofs.entries.put_entry.Tie as tie
+use Rattle.kinds.proofs.entries.put_entry.Statement.{statement}
+use Rattle.kinds.proofs.entries.put_entry.Tie as tie
 
 field-requires : tie.Need-field-requires
 field-requires c κs = search needs
@@ -71,7 +70,7 @@ same-length : tie.Need-same-length
 same-length c = search needs
 
 returns : tie.Need-returns
-unfolding entryRow
+unfolding entryOf kindOf
 returns c =
     rw (c .before .before .before .before .before .before .before .match .keys1)
     (delivers (ap₂ (λ (target mask : ℕ). bitAnd target mask ∷ mask ∷ []) (c .before .before .before .before .field2 .ensures) (c .before .before .before .before .before .before .field .ensures)) (c .before .before .put-words .ensures))
@@ -80,7 +79,7 @@ same-length-2 : tie.Need-same-length-2
 same-length-2 c = search needs
 
 returns-2 : tie.Need-returns-2
-unfolding entryRow
+unfolding entryOf kindOf
 returns-2 c =
     let mask = c .before .before .before .before .before .before .before .before .before .field3 .ensures in
     let low = c .before .before .before .before .before .before .before .scatter .ensures ∙ ap₂ (scattered 32) (c .before .before .before .before .before .before .before .before .field4 .ensures) mask in
@@ -91,7 +90,7 @@ same-length-3 : tie.Need-same-length-3
 same-length-3 c = search needs
 
 returns-3 : tie.Need-returns-3
-unfolding entryRow
+unfolding entryOf kindOf
 returns-3 c =
     rw (c .before .before .before .before .before .before .before .before .match .keys3)
     (delivers (ap₂ _∷_ (c .before .before .before .before .before .before .field6 .ensures) (ap₂ _∷_ (c .before .before .before .before .before .field7 .ensures) (ap₂ _∷_ (c .before .before .before .before .field8 .ensures) refl))) (c .before .before .put-words3 .ensures))
@@ -100,18 +99,19 @@ same-length-4 : tie.Need-same-length-4
 same-length-4 c = search needs
 
 returns-4 : tie.Need-returns-4
-unfolding entryRow wordsOf kindOf
+unfolding entryOf kindOf
 returns-4 c = rw (c .before .before .before .before .match .keys4) (c .before .before .put-words4 .ensures)
 
 same-length-5 : tie.Need-same-length-5
 same-length-5 c = search needs
 
 returns-5 : tie.Need-returns-5
-unfolding entryRow wordsOf kindOf
+unfolding entryOf kindOf
 returns-5 c = rw (c .before .before .before .before .match .keys5) (c .before .before .put-words5 .ensures)
 
 returns-6 : tie.Need-returns-6
-returns-6 c = rw (row-past (c .before .before .before .args .section) (omega (arith, c .match .rest))) (nothing _ _ refl)
+unfolding entryOf kindOf
+returns-6 c = rw (past (c .before .before .before .args .section) (omega (arith, c .match .rest))) (nothing _ _ refl)
 
 pub put-entry-spec : {M : Type 1} → statement M
 put-entry-spec =

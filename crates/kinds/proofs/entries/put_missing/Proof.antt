@@ -2,11 +2,11 @@
 use mathlib.Core.Path.{refl}
 use native.Mathlib.Omega.{arith}
 use Rattle.buffer.proofs.Writing.{nothing}
-use Rattle.programme.specs.Table.{entryRow}
-use Rattle.programme.proofs.Rows.{row-past}
+use Rattle.kinds.specs.Table.{missingOf, kindOf}
+use Rattle.kinds.proofs.Rows.{past}
 use borrow.Author.Needs.{needs}
-use Rattle.programme.proofs.entries.put_missing.Statement.{statement}
-use Rattle.programme.proofs.entries.put_missing.Tie as tie
+use Rattle.kinds.proofs.entries.put_missing.Statement.{statement}
+use Rattle.kinds.proofs.entries.put_missing.Tie as tie
 
 slice-aggregate-put-words : tie.Need-slice-aggregate-put-words
 slice-aggregate-put-words c = search needs
@@ -42,39 +42,40 @@ same-length : tie.Need-same-length
 same-length c = search needs
 
 returns : tie.Need-returns
-unfolding entryRow
+unfolding missingOf kindOf
 returns c = rw (c .before .before .before .before .before .match .keys1) (c .before .before .put-words .ensures)
 
 same-length-2 : tie.Need-same-length-2
 same-length-2 c = search needs
 
 returns-2 : tie.Need-returns-2
-unfolding entryRow
+unfolding missingOf kindOf
 returns-2 c = rw (c .before .before .before .before .before .match .keys2) (c .before .before .put-words2 .ensures)
 
 same-length-3 : tie.Need-same-length-3
 same-length-3 c = search needs
 
 returns-3 : tie.Need-returns-3
-unfolding entryRow
+unfolding missingOf kindOf
 returns-3 c = rw (c .before .before .before .before .before .match .keys3) (c .before .before .put-words3 .ensures)
 
 same-length-4 : tie.Need-same-length-4
 same-length-4 c = search needs
 
 returns-4 : tie.Need-returns-4
-unfolding entryRow
+unfolding missingOf kindOf
 returns-4 c = rw (c .before .before .before .before .before .match .keys4) (c .before .before .put-words4 .ensures)
 
 same-length-5 : tie.Need-same-length-5
 same-length-5 c = search needs
 
 returns-5 : tie.Need-returns-5
-unfolding entryRow
+unfolding missingOf kindOf
 returns-5 c = rw (c .before .before .before .before .before .match .keys5) (c .before .before .put-words5 .ensures)
 
 returns-6 : tie.Need-returns-6
-returns-6 c = rw (row-past (c .before .before .args .section) (omega (arith, c .match .rest))) (nothing _ _ refl)
+unfolding missingOf kindOf
+returns-6 c = rw (past (c .before .before .args .section) (omega (arith, c .match .rest))) (nothing _ _ refl)
 
 pub put-missing-spec : {M : Type 1} → statement M
 put-missing-spec =
