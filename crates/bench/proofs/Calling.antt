@@ -19,7 +19,7 @@ use Rattle.programme.specs.Machine.{Machine}
 use Rattle.bench.specs.Run.{earlierOf, step, takes, next, captures, handedOn, taken, startAccepted}
 use Rattle.bench.specs.Call.{mostSamples, delivered, answered, leftBy}
 use Rattle.bench.specs.Walk.{runFrom, ranTo, Walks, NeededIn, Delivers, Answers}
-use Rattle.bench.proofs.Pieces.{taken-length}
+use Rattle.bench.proofs.Pieces.{ended-hands-on, ended-takes-nothing, taken-length}
 
 module _ (m : Machine) (xs : List ℕ) (r : Run) (room : ℕ) where
   pub needed-none : length xs ≤ room → NeededIn room (length (taken m r xs)) 0
@@ -27,6 +27,16 @@ module _ (m : Machine) (xs : List ℕ) (r : Run) (room : ℕ) where
 
   pub needed-all : (n : ℕ) → n ≡ length (taken m r xs) → NeededIn room (length (taken m r xs)) n
   needed-all n e = record { fits = λ f. rw (← e) f; exact = λ f. e }
+
+-- where nothing is taken any room will do
+none-delivered : (m : Machine) (xs : List ℕ) (r : Run) (room : ℕ) → taken m r xs ≡ [] → handedOn m r xs ≡ r → delivered m xs r room ≡ Done 0 r
+unfolding delivered
+none-delivered m xs r room et eh =
+    ap₂ (λ (l : List ℕ) (q : Run). cond (ltb room (length l)) (Refused 12 (length l)) (Done (length l) q)) et eh
+    ∙ ap (λ (b : Bool). cond b (Refused 12 0) (Done 0 r)) (le-ltb room 0 (omega arith))
+
+pub ended-delivered : (m : Machine) (xs : List ℕ) (r : Run) (room : ℕ) → r .ended ≡ true → delivered m xs r room ≡ Done 0 r
+ended-delivered m xs r room e = none-delivered m xs r room (ended-takes-nothing m r xs e) (ended-hands-on m r xs e)
 
 module _ (m : Machine) (xs : List ℕ) (r : Run) (out : List ℕ) where
   pub too-short : (n : ℕ) → NeededIn (length out) (length (taken m r xs)) n → length out < n → Delivers m xs r out (Refused 12 n) out
@@ -60,12 +70,8 @@ module _ (m : Machine) (xs : List ℕ) (r : Run) (out : List ℕ) where
 
   -- no sample is looked at
   pub nothing-taken : taken m r xs ≡ [] → handedOn m r xs ≡ r → Delivers m xs r out (Done 0 r) out
-  unfolding delivered
-  nothing-taken et eh = record {
-    answer = sym (ap₂ (λ (l : List ℕ) (q : Run). cond (ltb (length out) (length l)) (Refused 12 (length l)) (Done (length l) q)) et eh
-        ∙ ap (λ (b : Bool). cond b (Refused 12 0) (Done 0 r)) (le-ltb (length out) 0 (omega arith)));
-    left = ap (λ (l : List ℕ). fill l out) (sym et);
-  }
+  nothing-taken et eh =
+      record { answer = sym (none-delivered m xs r (length out) et eh); left = ap (λ (l : List ℕ). fill l out) (sym et) }
 
 -- no samples
 module _ (m : Machine) where

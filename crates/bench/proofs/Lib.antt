@@ -6,3 +6,5 @@ pub mod Standing
 pub mod Walking
 pub mod Calling
 pub mod Agreeing
+pub mod Succeeding
+pub mod Theorems
