@@ -6,5 +6,6 @@ pub mod Standing
 pub mod Walking
 pub mod Calling
 pub mod Agreeing
+pub mod Handing
 pub mod Succeeding
 pub mod Theorems

@@ -2,6 +2,7 @@
 // Promises: the sheet's refusal, 20, 24 or 12, or the words written and the run to hand on, as through the chain words; two pieces are one run (proofs/Theorems).
 // Rests on: programme (the sheet's table, and that it answers as the chain words do), lines, lut and edge (digits, tables, the plain rule of an edge).
 mod call;
+mod handed;
 mod moves;
 mod sources;
 mod sums;
