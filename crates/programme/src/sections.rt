@@ -45,7 +45,10 @@ pub(crate) fn put_sections(out: &mut [u32], sheet: &[u8], found: Judged) -> usiz
     let mut at: usize = 0;
     let mut section: usize = 0;
     while section < SECTIONS {
-        let part = peek::prefix(peek::suffix(sheet, found.starts[section]), found.sizes[section]);
+        let part = peek::prefix(
+            peek::suffix(sheet, found.starts[section]),
+            found.sizes[section],
+        );
         at = put_section(out, at, section, part);
         section += 1;
     }
