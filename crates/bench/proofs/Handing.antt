@@ -1,19 +1,25 @@
 -- Five words read as a run, and a run put into five words. Assumes nothing.
 use Prim.Native.Nat.{ℕ}
-use mathlib.Core.Path.{_≡_, refl, ap, _∙_}
-use mathlib.Core.Bool.{Bool, true, false, cond, _&&_, _||_}
+use mathlib.Core.Path.{_≡_, refl, sym, ap, _∙_}
+use mathlib.Core.Bool.{Bool, true, false, cond, _&&_, _||_, true≢false}
 use mathlib.Core.List.{List, [], _∷_}
 use native.Mathlib.Omega.{arith}
 use borrow.Author.Tests.{eq-eqb, ne-eqb, eqb-true}
 use lib.Dec.{eqb, ltb}
 use lib.ListN.{length, getD}
 use lib.Seq.{sets}
+use Rattle.buffer.specs.declared.Outcome.the-variants as Outcome
 use Rattle.buffer.proofs.Writing.{stored, fill-all}
 use Rattle.lines.proofs.Truth.{both-true}
 use Rattle.bench.specs.declared.Earlier.{Earlier}
 use Rattle.bench.specs.declared.Earlier.the-variants.{Nothing, Word}
 use Rattle.bench.specs.declared.Run.{Run}
-use Rattle.bench.specs.Handed.{isRun, noRun, runOf, flagOf, earlierWords, wordsOf}
+use Rattle.bench.specs.declared.Benched.{Benched}
+use Rattle.bench.specs.declared.Benched.the-variants.{Done, Refused}
+use Rattle.bench.specs.Run.{startAccepted}
+use Rattle.bench.specs.Call.{machineOf, benched, benchedLeft}
+use Rattle.bench.specs.Handed.{isRun, noRun, runOf, flagOf, earlierWords, wordsOf, handedBy, outcomeOf}
+use Rattle.bench.proofs.Succeeding.{bench-did}
 
 -- whether the flags are 0 or 1, and no earlier word stands where there is none
 abbrev pub FlagsFit : List ℕ → Bool
@@ -51,3 +57,38 @@ pub run-stored : (ws : List ℕ) (r : Run) → length ws ≡ 5
     → sets ws 0 (r .state ∷ r .count ∷ getD (earlierWords (r .earlier) []) 0 0 ∷ getD (earlierWords (r .earlier) []) 1 0 ∷ flagOf (r .ended) ∷ []) ≡ wordsOf r
 run-stored ws r l =
     all-stored ws _ l refl ∙ ap (λ (t : List ℕ). r .state ∷ r .count ∷ t) (pair-of (r .earlier) (flagOf (r .ended) ∷ []))
+
+-- ---- the call for a run in words, which the call on the run that they are has answered
+
+module _ (s xs ws : List ℕ) (r : Run) (out out′ : List ℕ) (b : Benched) (er : r ≡ runOf ws)
+    (eb : b ≡ benched s xs r (length out)) (eo : out′ ≡ benchedLeft s xs r out) where
+  same-answer : b ≡ benched s xs (runOf ws) (length out)
+  same-answer = eb ∙ ap (λ (q : Run). benched s xs q (length out)) er
+
+  same-left : out′ ≡ benchedLeft s xs (runOf ws) out
+  same-left = eo ∙ ap (λ (q : Run). benchedLeft s xs q out) er
+
+  -- where it is done the words are five
+  pub done-count : (n : ℕ) (r′ : Run) → b ≡ Done n r′ → length ws ≡ 5
+  unfolding runOf startAccepted
+  done-count n r′ e = go (isRun ws) refl
+    where
+      go : (c : Bool) → isRun ws ≡ c → length ws ≡ 5
+      go true q = run-count ws q
+      go false q =
+          let no-start : startAccepted (machineOf s) (runOf ws) ≡ false = rw q in
+          absurd (true≢false (sym (bench-did s xs (runOf ws) (length out) n r′ (sym same-answer ∙ e) .start) ∙ no-start))
+
+  pub words-done : (n : ℕ) (r′ : Run) (ws′ : List ℕ) → b ≡ Done n r′ → ws′ ≡ wordsOf r′
+      → (Outcome.Done n ≡ outcomeOf (benched s xs (runOf ws) (length out))) × ((ws′ ≡ handedBy (benched s xs (runOf ws) (length out)) ws)
+      × (out′ ≡ benchedLeft s xs (runOf ws) out))
+  words-done n r′ ws′ e w =
+      let q : Done n r′ ≡ benched s xs (runOf ws) (length out) = sym e ∙ same-answer in
+      (ap outcomeOf q, (w ∙ ap (λ (c : Benched). handedBy c ws) q, same-left))
+
+  pub words-refused : (number place : ℕ) → b ≡ Refused number place
+      → (Outcome.Refused number place ≡ outcomeOf (benched s xs (runOf ws) (length out))) × ((ws ≡ handedBy (benched s xs (runOf ws) (length out)) ws)
+      × (out′ ≡ benchedLeft s xs (runOf ws) out))
+  words-refused number place e =
+      let q : Refused number place ≡ benched s xs (runOf ws) (length out) = sym e ∙ same-answer in
+      (ap outcomeOf q, (ap (λ (c : Benched). handedBy c ws) q, same-left))

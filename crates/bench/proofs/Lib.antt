@@ -6,6 +6,7 @@ pub mod Standing
 pub mod Walking
 pub mod Calling
 pub mod Agreeing
-pub mod Handing
 pub mod Succeeding
+pub mod Through
+pub mod Handing
 pub mod Theorems

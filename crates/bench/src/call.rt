@@ -3,6 +3,7 @@ ghost use mathlib.Core.Path.{_≡_};
 ghost use lib.ListN.{length};
 ghost use Rattle.programme.specs.Table.{tableLength, plain};
 ghost use Rattle.bench.specs.Run.{fresh, startAccepted, earlierOf, taken};
+ghost use Rattle.bench.specs.Call.{benched, benchedLeft};
 ghost use Rattle.bench.specs.Walk.{Starts, NeededIn, Delivers, Answers, runFrom};
 use crate::BAD_RUN;
 use crate::Benched;
@@ -13,6 +14,7 @@ use crate::TOO_MANY_SAMPLES;
 use crate::moves::number_of;
 use crate::moves::word_of;
 use crate::walk::walk;
+use buffer::Outcome;
 
 // The run to begin with.
 pub fn fresh() -> Run
@@ -116,4 +118,16 @@ pub(crate) fn bench_table(table: &[u32], samples: &[u32], run: Run, out: &mut [u
     let before = run.earlier;
     let first = earlier_of(before, samples[0]);
     deliver(table, samples, run.state, run.count, first, out)
+}
+
+// The call on a sheet: its table is made once, and the samples are run over it.
+pub fn bench(sheet: &[u8], samples: &[u32], run: Run, out: &mut [u32]) -> Benched
+    ensures { λ r. ⌜ r ≡ benched (now (sheet .entry)) (now (samples .entry)) run (length (now (out .entry))) ⌝ }
+    ensures { λ _. ⌜ now (out .exit) ≡ benchedLeft (now (sheet .entry)) (now (samples .entry)) run (now (out .entry)) ⌝ }
+{
+    let mut table = [0u32; programme::TABLE_LENGTH];
+    match programme::prepare(sheet, &mut table) {
+        Outcome::Refused(number, place) => Benched::Refused(number, place),
+        Outcome::Done(_) => bench_table(&table, samples, run, out),
+    }
 }

@@ -5,9 +5,13 @@ ghost use mathlib.Core.List.{[]};
 ghost use lib.Dec.{eqb, ltb};
 ghost use lib.ListN.{length, getD};
 ghost use Rattle.bench.specs.declared.Earlier.the-variants.{Nothing, Word};
-ghost use Rattle.bench.specs.Handed.{noRun, runOf, flagOf, earlierWords, wordsOf};
+ghost use Rattle.bench.specs.Call.{benched, benchedLeft};
+ghost use Rattle.bench.specs.Handed.{noRun, runOf, flagOf, earlierWords, wordsOf, handedBy, outcomeOf};
+use crate::Benched;
 use crate::Earlier;
 use crate::Run;
+use crate::call::bench;
+use buffer::Outcome;
 
 // How many words a run has.
 const RUN_WORDS: usize = 5;
@@ -100,4 +104,19 @@ fn put_run(words: &mut [u32], run: Run)
     words[2] = earlier_flag(earlier);
     words[3] = earlier_word(earlier);
     words[4] = flag_of(run.ended);
+}
+
+// The call, for a run in words.
+pub fn bench_words(sheet: &[u8], samples: &[u32], run: &mut [u32], out: &mut [u32]) -> Outcome
+    ensures { λ r. ⌜ r ≡ outcomeOf (benched (now (sheet .entry)) (now (samples .entry)) (runOf (now (run .entry))) (length (now (out .entry)))) ⌝ }
+    ensures { λ _. ⌜ now (run .exit) ≡ handedBy (benched (now (sheet .entry)) (now (samples .entry)) (runOf (now (run .entry))) (length (now (out .entry)))) (now (run .entry)) ⌝ }
+    ensures { λ _. ⌜ now (out .exit) ≡ benchedLeft (now (sheet .entry)) (now (samples .entry)) (runOf (now (run .entry))) (now (out .entry)) ⌝ }
+{
+    match bench(sheet, samples, run_of(run), out) {
+        Benched::Refused(number, place) => Outcome::Refused(number, place),
+        Benched::Done(n, next) => {
+            put_run(run, next);
+            Outcome::Done(n)
+        }
+    }
 }

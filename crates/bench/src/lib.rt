@@ -8,7 +8,9 @@ mod sources;
 mod sums;
 mod walk;
 
+pub use call::bench;
 pub use call::fresh;
+pub use handed::bench_words;
 
 // The most samples of a call.
 pub const MOST_SAMPLES: usize = 4096;
