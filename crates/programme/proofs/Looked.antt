@@ -35,7 +35,7 @@ use Rattle.programme.specs.Machine.{shownBy, shown, byRules, Agree}
 use Rattle.programme.specs.Table.{entryFor, tableOf, at, termAt, spreadHit, rangeAt, edgeAt, sixAt, plain}
 use Rattle.programme.proofs.Order.{spread-hits}
 use Rattle.programme.proofs.Lookup.{before, entry-at}
-use Rattle.programme.proofs.Rules.{sources-same, there}
+use Rattle.programme.proofs.Rules.{sources-same, there, one-is}
 
 -- ---- an entry answers as the record's plain rule does; that of no record never hits
 
@@ -63,10 +63,6 @@ edge-entry (b ∷ bs) e x = refl
 -- six numbers as they stand in an entry
 abbrev sixOf : List ℕ → List ℕ
 sixOf w = getD w 0 0 ∷ getD w 1 0 ∷ getD w 2 0 ∷ getD w 3 0 ∷ getD w 4 0 ∷ getD w 5 0 ∷ []
-
-one-is : (b : Bool) → eqb (oneIf b) 1 ≡ b
-one-is true = refl
-one-is false = refl
 
 sum-entry : (r : List ℕ) (x : ℕ) → sumHit (sixOf (entryFor SUMS r)) x ≡ eqb (shownBy SUMS r (Sources x) 0) 1
 unfolding entryFor entryOf missingOf shownBy showsOf kindOf sum.words sum-words.wordsOf sumHit

@@ -28,6 +28,7 @@ use Rattle.edge.specs.Model.{runEdge}
 use Rattle.sum.specs.Model.{runSum, sumHit}
 use Rattle.sum.specs.Words as sum-words
 use Rattle.sum.specs.Description as sum
+use Rattle.sum.specs.Meaning.{sumMeans}
 use Rattle.buffer.specs.declared.Verdict.the-variants.{Accepted}
 use Rattle.kinds.specs.Table.{sections, kindOf, wordsOf, showsOf, chainCount, chainLength, TERMS, RANGES, EDGES, SUMS, STATES}
 use Rattle.kinds.proofs.Ways.{words-count, chains-flat}
@@ -37,7 +38,7 @@ use Rattle.sheet.specs.Parsed.{recordWith, AcceptedDescription}
 use Rattle.sheet.proofs.Slots.{description-bytes, description-whole, description-sound}
 use Rattle.sheet.proofs.Theorems.{description-iff}
 use Rattle.compiler.specs.Chains.{chainWordsOf}
-use Rattle.compiler.proofs.Theorems.{term-hits, range-hits, edge-hits, state-words}
+use Rattle.compiler.proofs.Theorems.{term-hits, range-hits, edge-hits, sum-hits, state-words}
 use Rattle.programme.specs.Programme.{wordsFor, programmeOf}
 use Rattle.programme.specs.Machine.{Machine, sourcesBy, throughWords, shownBy, shown, byRules, Agree}
 
@@ -61,6 +62,10 @@ sources-same t t′ r r′ e e′ ht hr he = lines-equal 16 _ _ (λ i h. go i (d
 hit-number : (b : Bool) → answerHit (hitOrMiss b) ≡ oneIf b
 hit-number true = refl
 hit-number false = refl
+
+pub one-is : (b : Bool) → eqb (oneIf b) 1 ≡ b
+one-is true = refl
+one-is false = refl
 
 answers : (a : Answer) (b : Bool) → a ≡ hitOrMiss b → answerHit a ≡ oneIf b
 answers a b e = ap answerHit e ∙ hit-number b
@@ -100,6 +105,15 @@ sum-shown (b ∷ bs) x =
     let words : List ℕ = sum-words.wordsOf (sum.fromBytes d) in
     ap (λ (ws : List ℕ). answerHit (runSum ws x)) (chains-flat SUMS d)
     ∙ answers _ (sumHit words x) (run-needed 6 words (sumHit words x) (sumHit words x) refl refl)
+
+-- but its words do what its operations mean
+pub sum-means : (r : List ℕ) (x : ℕ) → (r ≡ [] → ⊥) → AcceptedDescription SUMS (descriptionOf r)
+    → eqb (answerHit (runSum (wordsFor SUMS r) x)) 1 ≡ sumMeans (sum.fromBytes (descriptionOf r)) x
+unfolding wordsFor
+sum-means [] x n a = absurd (n refl)
+sum-means (b ∷ bs) x n a =
+    let d : List ℕ = descriptionOf (b ∷ bs) in
+    ap (λ (k : ℕ). eqb k 1) (answers _ (sumMeans (sum.fromBytes (descriptionOf (b ∷ bs))) x) (sum-hits d a x)) ∙ one-is (sumMeans (sum.fromBytes (descriptionOf (b ∷ bs))) x)
 
 state-shown : (r : List ℕ) → getD (wordsFor STATES r) 0 1 ≡ shownBy STATES r Nothing 1
 unfolding wordsFor shownBy showsOf kindOf
