@@ -1,8 +1,8 @@
 //! Times the proved library and the plain implementation on the same inputs: `cargo bench --offline`. For each call it
 //! prints the nanoseconds of both and their ratio; of the bench, the nanoseconds of a sample. Output buffers are made
 //! once and are not cleared between calls, on either side (plain's read, notice and bench write to a page of their own
-//! first, and copy). Both sides run in turn; the best of many rounds counts. The rounds of a short call last long enough
-//! that another process cannot disturb all of them.
+//! first, and copy). Both sides run in turn; the best of many rounds counts. The rounds of a short call last long
+//! enough that another process cannot disturb all of them.
 use plain::make::{self, Random, Setup};
 use plain::programmes;
 use std::hint::black_box;

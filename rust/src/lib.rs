@@ -19,11 +19,11 @@ pub const LONGEST_SHEET: usize = 1571;
 pub const LONGEST_STREAM: usize = 2520;
 pub const LONGEST_NOTICE: usize = 2172;
 
-/// The most samples that one call of [`bench`] takes.
+/// The most samples that one call of [`bench()`] takes.
 pub const MOST_SAMPLES: usize = 4096;
 
-/// A refusal: its number, and its place (for 12 the bytes needed, of [`bench`] the words; for 17 the words needed; for
-/// 20 the most samples).
+/// A refusal: its number, and its place (for 12 the bytes needed, of [`bench()`] the words; for 17 the words needed;
+/// for 20 the most samples).
 #[derive(Clone, Copy, Debug, PartialEq, Eq)]
 pub struct Refusal {
     pub number: u8,
@@ -310,7 +310,7 @@ pub fn edge_hit(rise: u32, fall: u32, neither: u32, earlier: u32, later: u32) ->
     unsafe { raw::voltamar_edge_hit(rise, fall, neither, earlier, later) }
 }
 
-/// What one call of [`bench`] hands on to the next. The default is a fresh run: state 0, count 0, no word before the
+/// What one call of [`bench()`] hands on to the next. The default is a fresh run: state 0, count 0, no word before the
 /// first sample, not ended.
 #[derive(Clone, Copy, Debug, Default, PartialEq, Eq)]
 pub struct Run {

@@ -20,7 +20,7 @@ pub use stream::{compile, read, LONGEST_STREAM};
 /// The longest notice: every slot of both sheets with a changed label and a changed description.
 pub const LONGEST_NOTICE: usize = 2172;
 
-/// A refusal: its number, and its place (for 12 what is needed, bytes or of the bench words; for 17 the words needed; for
+/// A refusal: its number, and its place (for 12 the bytes needed, of the bench the words; for 17 the words needed; for
 /// 20 the most samples).
 #[derive(Clone, Copy, Debug, PartialEq, Eq)]
 pub struct Refusal {
