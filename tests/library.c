@@ -291,6 +291,7 @@ static void bench(void) {
 static void bench_refusals(void) {
     static uint8_t sheet[SPACE];
     static uint32_t samples[VOLTAMAR_MOST_SAMPLES + 1];
+    const uint32_t fresh[RUN] = {0};
     uint32_t room[ROOM], run[RUN + 1] = {0};
     size_t n = one_state(sheet), place = 99;
     clear_words(room);
@@ -307,6 +308,7 @@ static void bench_refusals(void) {
     expect(voltamar_bench(sheet, n, samples, VOLTAMAR_MOST_SAMPLES, run, RUN, room, 2, &place) == VOLTAMAR_OUTPUT_TOO_SHORT &&
                place == VOLTAMAR_MOST_SAMPLES,
            "bench: 12");
+    expect(memcmp(run, fresh, sizeof fresh) == 0, "bench: 12 leaves the run");
 
     const uint32_t no_runs[5][RUN] = {{0, 2, 0, 0, 0}, {1, 1, 0, 0, 0}, {0, 0, 2, 0, 0}, {0, 0, 0, 1, 0}, {0, 0, 0, 0, 2}};
     for (int i = 0; i < 5; i++) {

@@ -36,7 +36,7 @@ fn compare_each<I, A, B>(
         best[1] = best[1].min(start.elapsed().as_secs_f64());
     }
     let [proved, plain] = best.map(|seconds| seconds / things as f64 * 1e9);
-    println!("{name:<10} {proved:>12.1} {plain:>12.1} {:>8.2}", proved / plain);
+    println!("{name:<16} {proved:>12.1} {plain:>12.1} {:>8.2}", proved / plain);
 }
 
 fn main() {
@@ -61,7 +61,7 @@ fn main() {
         bytes(sheets.iter().map(|sheet| sheet.len()).sum()),
         bytes(streams.iter().map(Vec::len).sum()),
     );
-    println!("{:<10} {:>12} {:>12} {:>8}", "call", "proved (ns)", "plain (ns)", "ratio");
+    println!("{:<16} {:>12} {:>12} {:>8}", "call", "proved (ns)", "plain (ns)", "ratio");
 
     let (mut a, mut b) = (vec![0; plain::LONGEST_STREAM], vec![0; plain::LONGEST_STREAM]);
     compare("check", &sheets, |sheet| voltamar::check(sheet), |sheet| plain::check(sheet));
@@ -152,7 +152,7 @@ fn bench(random: &mut Random) {
         assert!(!run.ended);
     }
     compare_each(
-        "bench",
+        "bench, a sample",
         runs.len() * plain::MOST_SAMPLES,
         &runs,
         |(sheet, samples)| voltamar::bench(sheet, samples, voltamar::Run::default(), black_box(&mut a)),
