@@ -10,9 +10,9 @@
  * count, record, byte, command or item that is refused; for 12 the bytes needed, of the bench the words; for 17 the words needed,
  * for 20 the most samples, for 24 it is 0. Where a call is done, what *place is stands beside it below.
  *
- * ROOM. A call with out and room, which counts bytes, of the bench words, writes at the start of out. A refused call, 12 too, leaves
+ * ROOM. A call with out and room writes at the start of out; room is in bytes, of the bench in words. A refused call, 12 too, leaves
  * all of out as it was; a call that is done leaves what is beyond the length it gives as it was. The three lengths below are room
- * enough for any input; the bench writes at most as many words as it is lent samples.
+ * enough for any input; the bench writes no more words than it is lent samples.
  *
  * WHAT THE CALLER OWES, since nothing here can test it: a pointer is good for as many bytes or words as the length beside it says
  * (with a length of 0 it may be NULL), and the others are good for the one value they point to; each is aligned as C asks for its
@@ -119,16 +119,17 @@ bool voltamar_edge_hit(uint32_t rise, uint32_t fall, uint32_t neither, uint32_t 
 /* The bench: runs the sheet's programme over k samples, and writes those that its capture sums take, in their order, to out. The run
  * is five words: state (0 to 15), count, 1 if there is a word before the next sample and 0 if not, that word (0 if there is none), 1
  * if the run has ended and 0 if not. Five zeros are a fresh run. Done: 0, *place is how many words were written, and run is the run
- * to hand to the next call: samples that come in pieces give what one call gives. Refused, with run and out as they were: the
- * sheet's refusal; 20 for more than 4,096 samples, and *place is 4096; 24 for a state above 15, a count not below its state's number
- * (one of 0 counts as 1, so does a state's that the sheet does not have), a run_words other than 5 or words that are no run, and
- * *place is 0; 12, and *place is the words needed. In this order, and whether the run has ended or not.
+ * to hand to the next call: samples in pieces give what one call gives. Refused, with run and out as they were, and whether the run
+ * has ended or not: the sheet's refusal; else 20 for more than 4,096 samples, and *place is 4096; else 24, and *place is 0, for a
+ * state above 15, a count not below its state's number, or words that are no run (run_words other than 5, too); else 12, and *place
+ * is the words needed.
  *
  * On each sample the run is in one state, and its three sums (slots 3 x state, + 1, + 2: hit, else, capture) are asked. Capture takes
- * the sample if the capture sum matches. If the hit sum matches, the count goes up; at the state's number it is cleared, and the run
- * goes to the next state, or ends in state 15 or one that is a last one. If the hit sum does not match and the else sum does, the run
- * goes to the else state and the count is cleared. After the end no sample is looked at. The first sample of a fresh run is its own
- * earlier one. What the sheet does not have never hits and never matches, and the timers never hit. */
+ * the sample if the capture sum matches. If the hit sum matches, the count goes up; at the state's number, where 0 counts as 1, it is
+ * cleared, and the run goes to the next state, or ends if the state is 15 or has the flag last. If the hit sum does not match and the
+ * else sum does, the run goes to the else state and the count is cleared. After the end no sample is looked at. The first sample of
+ * a fresh run is its own earlier one. Terms, ranges and edges that the sheet does not have never hit, nor do the timers; sums never
+ * match; a state that it does not have has number 1, else state 0 and no flags. */
 uint8_t voltamar_bench(const uint8_t *sheet, size_t n, const uint32_t *samples, size_t k, uint32_t *run, size_t run_words,
                        uint32_t *out, size_t room, size_t *place);
 
