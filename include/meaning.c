@@ -14,7 +14,7 @@ static const char *const meanings[] = {
     [VOLTAMAR_NEITHER_CLASH] = "neither together with rise or fall on a line",
     [VOLTAMAR_BAD_OPERATION] = "operation above 9",
     [VOLTAMAR_LEFT_OVER] = "bytes left over",
-    [VOLTAMAR_OUTPUT_TOO_SHORT] = "output too short (the place is the bytes needed)",
+    [VOLTAMAR_OUTPUT_TOO_SHORT] = "output too short (the place is what is needed)",
     [VOLTAMAR_UNFINISHED] = "stream ends inside a command or item",
     [VOLTAMAR_BAD_OPCODE] = "opcode other than the one due",
     [VOLTAMAR_BAD_ADDRESS] = "address unknown, not rising, or not the one due",
@@ -22,8 +22,11 @@ static const char *const meanings[] = {
     [VOLTAMAR_WRONG_COUNT] = "wrong word count (the place is the count needed)",
     [VOLTAMAR_FIELD_TOO_BIG] = "a state's field too big for its place",
     [VOLTAMAR_SAME_LABEL] = "label the same as an earlier one of its section",
+    [VOLTAMAR_TOO_MANY_SAMPLES] = "too many samples (the place is the most)",
+    [VOLTAMAR_BAD_RUN] = "state above 15, or count not below its number",
 };
 
 const char *voltamar_meaning(uint8_t number) {
-    return number < sizeof meanings / sizeof *meanings ? meanings[number] : "not a refusal's number";
+    const char *meaning = number < sizeof meanings / sizeof *meanings ? meanings[number] : NULL;
+    return meaning != NULL ? meaning : "not a refusal's number"; /* the table has gaps */
 }

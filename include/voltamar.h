@@ -6,17 +6,18 @@
  * ANSWERS. A call that returns uint8_t returns 0 for done (VOLTAMAR_DONE), or the number of the refusal (enum voltamar_refusal
  * below; voltamar_meaning says it in words).
  *
- * Each call writes through each of its pointers, whatever it returns. *place is, for a refusal, the offset of the count, record,
- * byte, command or item that is refused; for 12 the bytes needed, for 17 the words needed. Where a call is done, what *place
- * is stands beside it below.
+ * Each call writes through each of its pointers to one value, whatever it returns. *place is, for a refusal, the offset of the
+ * count, record, byte, command or item that is refused; for 12 the bytes needed, of the bench the words; for 17 the words needed,
+ * for 20 the most samples, for 24 it is 0. Where a call is done, what *place is stands beside it below.
  *
- * ROOM. A call with out and room writes at the start of out. A refused call, 12 too, leaves all of out as it was; a call that is
- * done leaves the bytes beyond the length it gives as they were. The three lengths below are room enough for any input.
+ * ROOM. A call with out and room writes at the start of out; room is in bytes, of the bench in words. A refused call, 12 too, leaves
+ * all of out as it was; a call that is done leaves what is beyond the length it gives as it was. The three lengths below are room
+ * enough for any input; the bench writes no more words than it is lent samples.
  *
  * WHAT THE CALLER OWES, since nothing here can test it: a pointer is good for as many bytes or words as the length beside it says
  * (with a length of 0 it may be NULL), and the others are good for the one value they point to; each is aligned as C asks for its
  * type, which for bytes is any address, and for uint32_t and size_t one that their size divides; what is written through
- * (out, place, which, start, length, hit) overlaps nothing else that is handed over; and no other thread writes what is handed
+ * (out, run, place, which, start, length, hit) overlaps nothing else that is handed over; and no other thread writes what is handed
  * over, or reads what is written, during the call. The calls keep no state and allocate nothing; of the C library they
  * need memcpy and memset. */
 #ifndef VOLTAMAR_H
@@ -36,6 +37,9 @@ extern "C" {
 #define VOLTAMAR_LONGEST_STREAM 2520
 #define VOLTAMAR_LONGEST_NOTICE 2172
 
+/* The most samples that one call of the bench takes. */
+#define VOLTAMAR_MOST_SAMPLES 4096
+
 /* What a call returns. */
 enum voltamar_refusal {
     VOLTAMAR_DONE = 0,
@@ -50,14 +54,16 @@ enum voltamar_refusal {
     VOLTAMAR_NEITHER_CLASH = 9,     /* neither together with rise or fall on a line */
     VOLTAMAR_BAD_OPERATION = 10,    /* operation above 9 */
     VOLTAMAR_LEFT_OVER = 11,        /* bytes behind the last section */
-    VOLTAMAR_OUTPUT_TOO_SHORT = 12, /* *place is the bytes needed */
+    VOLTAMAR_OUTPUT_TOO_SHORT = 12, /* *place is what is needed: bytes, of the bench words */
     VOLTAMAR_UNFINISHED = 13,       /* the stream ends inside a command or item */
     VOLTAMAR_BAD_OPCODE = 14,       /* other than the one due */
     VOLTAMAR_BAD_ADDRESS = 15,      /* unknown, not rising, or not the one due */
     VOLTAMAR_BAD_WORDS = 16,        /* words that no accepted description writes */
     VOLTAMAR_WRONG_COUNT = 17,      /* *place is the words needed */
     VOLTAMAR_FIELD_TOO_BIG = 18,    /* a state's number above FFFFF hex, else state above 15, or flag above 1 */
-    VOLTAMAR_SAME_LABEL = 19        /* as an earlier record of its section: all eight bytes the same */
+    VOLTAMAR_SAME_LABEL = 19,       /* as an earlier record of its section: all eight bytes the same */
+    VOLTAMAR_TOO_MANY_SAMPLES = 20, /* *place is the most */
+    VOLTAMAR_BAD_RUN = 24           /* state above 15, count not below its state's number, or words that are no run */
 };
 
 /* What a number means, in a few words of English that last for ever; "done" for 0, and "not a refusal's number" for one that is none.
@@ -109,6 +115,23 @@ uint8_t voltamar_run_sum(const uint32_t *words, size_t n, uint16_t sources, uint
 bool voltamar_term_hit(uint32_t target, uint32_t mask, uint32_t sample);
 bool voltamar_range_hit(uint32_t lower, uint32_t upper, uint32_t mask, uint32_t sample);
 bool voltamar_edge_hit(uint32_t rise, uint32_t fall, uint32_t neither, uint32_t earlier, uint32_t later);
+
+/* The bench: runs the sheet's programme over k samples, and writes those that its capture sums take, in their order, to out. The run
+ * is five words: state (0 to 15), count, 1 if there is a word before the next sample and 0 if not, that word (0 if there is none), 1
+ * if the run has ended and 0 if not. Five zeros are a fresh run. Done: 0, *place is how many words were written, and run is the run
+ * to hand to the next call: samples in pieces give what one call gives. Refused, with run and out as they were, and whether the run
+ * has ended or not: the sheet's refusal; else 20 for more than 4,096 samples, and *place is 4096; else 24, and *place is 0, for a
+ * state above 15, a count not below its state's number, or words that are no run (run_words other than 5, too); else 12, and *place
+ * is the words needed.
+ *
+ * On each sample the run is in one state, and its three sums (slots 3 x state, + 1, + 2: hit, else, capture) are asked. Capture takes
+ * the sample if the capture sum matches. If the hit sum matches, the count goes up; at the state's number, where 0 counts as 1, it is
+ * cleared, and the run goes to the next state, or ends if the state is 15 or has the flag last. If the hit sum does not match and the
+ * else sum does, the run goes to the else state and the count is cleared. After the end no sample is looked at. The first sample of
+ * a fresh run is its own earlier one. Terms, ranges and edges that the sheet does not have never hit, nor do the timers; sums never
+ * match; a state that it does not have has number 1, else state 0 and no flags. */
+uint8_t voltamar_bench(const uint8_t *sheet, size_t n, const uint32_t *samples, size_t k, uint32_t *run, size_t run_words,
+                       uint32_t *out, size_t room, size_t *place);
 
 #ifdef __cplusplus
 }

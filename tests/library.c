@@ -219,6 +219,126 @@ static void model(void) {
     expect(voltamar_run_sum(NULL, 0, 0, &hit, &place) == 17 && hit == 0 && place == 6, "run_sum: 17");
 }
 
+enum { ROOM = 256, RUN = 5, CANARY = 0x5A5A5A5A };
+
+/* the words of a file of examples/, least byte first, and how many */
+static size_t load_words(const char *name, uint32_t words[ROOM]) {
+    static uint8_t bytes[SPACE];
+    size_t n = load(name, bytes) / 4;
+    expect(n <= ROOM, name);
+    for (size_t i = 0; i < n && i < ROOM; i++) {
+        const uint8_t *b = bytes + 4 * i;
+        words[i] = (uint32_t)b[0] | (uint32_t)b[1] << 8 | (uint32_t)b[2] << 16 | (uint32_t)b[3] << 24;
+    }
+    return n <= ROOM ? n : 0;
+}
+
+/* whether the room holds these words, and beyond them nothing was written */
+static int holds_words(const uint32_t room[ROOM], const uint32_t *words, size_t n) {
+    for (size_t i = n; i < ROOM; i++) {
+        if (room[i] != CANARY) return 0;
+    }
+    return n == 0 || memcmp(room, words, n * sizeof *words) == 0;
+}
+
+static void clear_words(uint32_t room[ROOM]) {
+    for (size_t i = 0; i < ROOM; i++) room[i] = CANARY;
+}
+
+/* a term of slot 0 for line 0; the hit sum of state 0, which asks for it, its capture sum, which matches always; state 0 is the last */
+static size_t one_state(uint8_t sheet[SPACE]) {
+    static const uint8_t sums[2][20] = {
+        {0, 'H', 'I', 'T', ' ', ' ', ' ', ' ', ' ', 8, 0, 0, 0, 0, 0, 0, 0, 4, 4, 4},
+        {2, 'C', 'A', 'P', 'T', 'U', 'R', 'E', ' ', 0, 0, 0, 0, 0, 0, 0, 0, 0, 0, 1},
+    };
+    static const uint8_t term[17] = {0, 'L', 'I', 'N', 'E', ' ', '0', ' ', ' ', 1, 0, 0, 0, 1, 0, 0, 0};
+    static const uint8_t state[22] = {0, 'T', 'W', 'I', 'C', 'E', ' ', ' ', ' ', 2, 0, 0, 0, 0, 0, 0, 0, 0, 0, 0, 0, 1};
+    size_t n = 0;
+    sheet[n++] = 1;
+    memcpy(sheet + n, term, 17), n += 17;
+    sheet[n++] = 0, sheet[n++] = 0, sheet[n++] = 2;
+    memcpy(sheet + n, sums, 40), n += 40;
+    sheet[n++] = 1;
+    memcpy(sheet + n, state, 22), n += 22;
+    return n;
+}
+
+static void bench(void) {
+    static uint8_t sheet[SPACE];
+    const uint32_t samples[5] = {2, 1, 4, 3, 1}, after_three[RUN] = {0, 1, 1, 4, 0}, at_the_end[RUN] = {0, 0, 1, 3, 1};
+    uint32_t room[ROOM], run[RUN + 1] = {0, 0, 0, 0, 0, CANARY};
+    size_t n = one_state(sheet), place = 99;
+
+    clear_words(room);
+    expect(voltamar_bench(sheet, n, samples, 5, run, RUN, room, 4, &place) == 0 && place == 4, "bench: four of five are taken");
+    expect(holds_words(room, samples, 4), "bench: not the one behind the end");
+    expect(memcmp(run, at_the_end, sizeof at_the_end) == 0 && run[RUN] == CANARY, "bench: the run has ended");
+    clear_words(room);
+    expect(voltamar_bench(sheet, n, samples, 5, run, RUN, NULL, 0, &place) == 0 && place == 0, "bench: nothing after the end");
+    expect(memcmp(run, at_the_end, sizeof at_the_end) == 0, "bench: an ended run stays");
+
+    /* in two pieces, and an empty one between them */
+    memset(run, 0, sizeof at_the_end);
+    expect(voltamar_bench(sheet, n, samples, 3, run, RUN, room, ROOM, &place) == 0 && place == 3, "bench: the first piece");
+    expect(holds_words(room, samples, 3) && memcmp(run, after_three, sizeof after_three) == 0, "bench: the run handed on");
+    expect(voltamar_bench(sheet, n, NULL, 0, run, RUN, NULL, 0, &place) == 0 && place == 0, "bench: an empty piece");
+    expect(memcmp(run, after_three, sizeof after_three) == 0, "bench: the run of an empty piece");
+    expect(voltamar_bench(sheet, n, samples + 3, 2, run, RUN, room + 3, ROOM - 3, &place) == 0 && place == 1, "bench: the rest");
+    expect(holds_words(room, samples, 4) && memcmp(run, at_the_end, sizeof at_the_end) == 0, "bench: as one call gives");
+    expect(run[RUN] == CANARY, "bench: five words are written");
+}
+
+static void bench_refusals(void) {
+    static uint8_t sheet[SPACE];
+    static uint32_t samples[VOLTAMAR_MOST_SAMPLES + 1];
+    const uint32_t fresh[RUN] = {0};
+    uint32_t room[ROOM], run[RUN + 1] = {0};
+    size_t n = one_state(sheet), place = 99;
+    clear_words(room);
+    /* one refusal after the other, as each fault is taken away */
+    run[0] = 16;
+    expect(voltamar_bench(lower_zero, REFUSED, samples, VOLTAMAR_MOST_SAMPLES + 1, run, RUN, room, 2, &place) == 6 && place == 2,
+           "bench: the sheet is refused");
+    expect(voltamar_bench(sheet, n, samples, VOLTAMAR_MOST_SAMPLES + 1, run, RUN, room, 2, &place) == VOLTAMAR_TOO_MANY_SAMPLES &&
+               place == VOLTAMAR_MOST_SAMPLES,
+           "bench: 20");
+    expect(voltamar_bench(sheet, n, samples, VOLTAMAR_MOST_SAMPLES, run, RUN, room, 2, &place) == VOLTAMAR_BAD_RUN && place == 0,
+           "bench: 24, a state of 16");
+    run[0] = 0;
+    expect(voltamar_bench(sheet, n, samples, VOLTAMAR_MOST_SAMPLES, run, RUN, room, 2, &place) == VOLTAMAR_OUTPUT_TOO_SHORT &&
+               place == VOLTAMAR_MOST_SAMPLES,
+           "bench: 12");
+    expect(memcmp(run, fresh, sizeof fresh) == 0, "bench: 12 leaves the run");
+
+    const uint32_t no_runs[5][RUN] = {{0, 2, 0, 0, 0}, {1, 1, 0, 0, 0}, {0, 0, 2, 0, 0}, {0, 0, 0, 1, 0}, {0, 0, 0, 0, 2}};
+    for (int i = 0; i < 5; i++) {
+        memcpy(run, no_runs[i], sizeof no_runs[i]);
+        expect(voltamar_bench(sheet, n, NULL, 0, run, RUN, room, ROOM, &place) == 24 && place == 0, "bench: 24");
+        expect(memcmp(run, no_runs[i], sizeof no_runs[i]) == 0, "bench: a refusal leaves the run");
+    }
+    memset(run, 0, sizeof run);
+    expect(voltamar_bench(sheet, n, NULL, 0, run, 4, room, ROOM, &place) == 24 && place == 0, "bench: four words are no run");
+    expect(voltamar_bench(sheet, n, NULL, 0, run, 6, room, ROOM, &place) == 24 && place == 0, "bench: six words are no run");
+    expect(voltamar_bench(sheet, n, NULL, 0, NULL, 0, room, ROOM, &place) == 24 && place == 0, "bench: no words are no run");
+    expect(voltamar_bench(NULL, 0, NULL, 0, NULL, 0, NULL, 0, &place) == 1 && place == 0, "bench: nothing at all");
+    expect(holds_words(room, NULL, 0), "bench: refusals write nothing");
+}
+
+static void bench_of_the_lift(void) {
+    uint32_t samples[ROOM], taken[ROOM], room[ROOM], run[RUN] = {0};
+    size_t k = load_words("lift.words", samples), wanted = load_words("lift.taken", taken), place = 99, at = 0;
+    clear_words(room);
+    expect(voltamar_bench(lift, lift_length, samples, k, run, RUN, room, ROOM, &place) == 0 && place == wanted, "bench: the lift");
+    expect(holds_words(room, taken, wanted) && run[0] == 3 && run[4] == 1, "bench: what is taken of the lift's words");
+    clear_words(room);
+    memset(run, 0, sizeof run);
+    for (size_t i = 0; i < k; i++, at += place) { /* sample by sample */
+        place = 0;
+        expect(voltamar_bench(lift, lift_length, samples + i, 1, run, RUN, room + at, ROOM - at, &place) == 0, "bench: one sample");
+    }
+    expect(at == wanted && holds_words(room, taken, wanted), "bench: the lift sample by sample");
+}
+
 static void rules(void) {
     expect(voltamar_gather(0x0880, 0x8A80) == 5, "gather");
     expect(voltamar_term_hit(5, 15, 0x25) && !voltamar_term_hit(5, 15, 4) && voltamar_term_hit(5, 0, 4), "term_hit");
@@ -234,7 +354,8 @@ static void meanings(void) {
     expect(strcmp(voltamar_meaning(VOLTAMAR_LOWER_ZERO), "lower bound is 0") == 0, "meaning: a refusal");
     for (int number = 0; number < 256; number++) {
         int is_none = strcmp(voltamar_meaning((uint8_t)number), "not a refusal's number") == 0;
-        expect(is_none == (number > VOLTAMAR_SAME_LABEL), "meaning: every number");
+        int between = number > VOLTAMAR_TOO_MANY_SAMPLES && number < VOLTAMAR_BAD_RUN;
+        expect(is_none == (between || number > VOLTAMAR_BAD_RUN), "meaning: every number");
     }
     expect(sizeof VOLTAMAR_VERSION > 1, "version");
 }
@@ -250,6 +371,9 @@ int main(void) {
     labels();
     notices();
     model();
+    bench();
+    bench_refusals();
+    bench_of_the_lift();
     rules();
     if (failures == 0) puts("library.c: ok");
     return failures != 0;

@@ -1,8 +1,10 @@
 //! Times the proved library and the plain implementation on the same inputs: `cargo bench --offline`. For each call it
-//! prints the nanoseconds of both and their ratio. Output buffers are made once and are not cleared between calls, on
-//! either side (plain's read and notice write to a page of their own first, and copy). Both sides run in turn; the best
-//! of many rounds counts. The rounds of a short call last long enough that another process cannot disturb all of them.
+//! prints the nanoseconds of both and their ratio; of the bench, the nanoseconds of a sample. Output buffers are made
+//! once and are not cleared between calls, on either side (plain's read, notice and bench write to a page of their own
+//! first, and copy). Both sides run in turn; the best of many rounds counts. The rounds of a short call last long
+//! enough that another process cannot disturb all of them.
 use plain::make::{self, Random, Setup};
+use plain::programmes;
 use std::hint::black_box;
 use std::time::{Duration, Instant};
 
@@ -10,7 +12,18 @@ const ROUNDS: usize = 60;
 const LEAST: Duration = Duration::from_millis(300);
 
 /// Nanoseconds of one call, the best of all rounds, for both sides.
-fn compare<I, A, B>(name: &str, inputs: &[I], mut proved: impl FnMut(&I) -> A, mut plain: impl FnMut(&I) -> B) {
+fn compare<I, A, B>(name: &str, inputs: &[I], proved: impl FnMut(&I) -> A, plain: impl FnMut(&I) -> B) {
+    compare_each(name, inputs.len(), inputs, proved, plain);
+}
+
+/// Nanoseconds of one thing, of which all the inputs together have so many.
+fn compare_each<I, A, B>(
+    name: &str,
+    things: usize,
+    inputs: &[I],
+    mut proved: impl FnMut(&I) -> A,
+    mut plain: impl FnMut(&I) -> B,
+) {
     let mut best = [f64::MAX; 2];
     let (began, mut rounds) = (Instant::now(), 0);
     while rounds < ROUNDS || began.elapsed() < LEAST {
@@ -22,8 +35,8 @@ fn compare<I, A, B>(name: &str, inputs: &[I], mut proved: impl FnMut(&I) -> A, m
         inputs.iter().for_each(|input| _ = black_box(plain(black_box(input))));
         best[1] = best[1].min(start.elapsed().as_secs_f64());
     }
-    let [proved, plain] = best.map(|seconds| seconds / inputs.len() as f64 * 1e9);
-    println!("{name:<10} {proved:>12.1} {plain:>12.1} {:>8.2}", proved / plain);
+    let [proved, plain] = best.map(|seconds| seconds / things as f64 * 1e9);
+    println!("{name:<16} {proved:>12.1} {plain:>12.1} {:>8.2}", proved / plain);
 }
 
 fn main() {
@@ -48,7 +61,7 @@ fn main() {
         bytes(sheets.iter().map(|sheet| sheet.len()).sum()),
         bytes(streams.iter().map(Vec::len).sum()),
     );
-    println!("{:<10} {:>12} {:>12} {:>8}", "call", "proved (ns)", "plain (ns)", "ratio");
+    println!("{:<16} {:>12} {:>12} {:>8}", "call", "proved (ns)", "plain (ns)", "ratio");
 
     let (mut a, mut b) = (vec![0; plain::LONGEST_STREAM], vec![0; plain::LONGEST_STREAM]);
     compare("check", &sheets, |sheet| voltamar::check(sheet), |sheet| plain::check(sheet));
@@ -120,5 +133,29 @@ fn main() {
         &sums,
         |(words, sources)| voltamar::run_sum(words, *sources),
         |(words, sources)| plain::run_sum(words, *sources),
+    );
+    bench(&mut random);
+}
+
+/// Full sheets whose runs do not end, with as many random samples as a call takes; plain goes through the chain words.
+/// At most half of plain's time is wanted.
+fn bench(random: &mut Random) {
+    let runs: Vec<(Vec<u8>, Vec<u32>)> = (0..20)
+        .map(|_| {
+            let sheet = programmes::endless(random).sheet();
+            (sheet, (0..plain::MOST_SAMPLES).map(|_| random.u32()).collect())
+        })
+        .collect();
+    let (mut a, mut b) = ([0; plain::MOST_SAMPLES], [0; plain::MOST_SAMPLES]);
+    for (sheet, samples) in &runs {
+        let run = plain::bench(sheet, samples, plain::Run::default(), &mut b).expect("accepted, with room").1;
+        assert!(!run.ended);
+    }
+    compare_each(
+        "bench, a sample",
+        runs.len() * plain::MOST_SAMPLES,
+        &runs,
+        |(sheet, samples)| voltamar::bench(sheet, samples, voltamar::Run::default(), black_box(&mut a)),
+        |(sheet, samples)| plain::bench(sheet, samples, plain::Run::default(), black_box(&mut b)),
     );
 }

@@ -1,5 +1,5 @@
 //! Safe calls over the proved static library (crates/voltamar_c). No call asks anything of its caller: what the C
-//! header asks, the borrow checker sees to. A refused call leaves `out` as it was; a call that is done leaves the bytes
+//! header asks, the borrow checker sees to. A refused call leaves `out` as it was; a call that is done leaves what is
 //! beyond the length it answers.
 //!
 //! ```
@@ -19,7 +19,11 @@ pub const LONGEST_SHEET: usize = 1571;
 pub const LONGEST_STREAM: usize = 2520;
 pub const LONGEST_NOTICE: usize = 2172;
 
-/// A refusal: its number, and its place (for 12 the bytes needed, for 17 the words needed).
+/// The most samples that one call of [`bench()`] takes.
+pub const MOST_SAMPLES: usize = 4096;
+
+/// A refusal: its number, and its place (for 12 the bytes needed, of [`bench()`] the words; for 17 the words needed;
+/// for 20 the most samples).
 #[derive(Clone, Copy, Debug, PartialEq, Eq)]
 pub struct Refusal {
     pub number: u8,
@@ -41,7 +45,7 @@ impl Refusal {
             9 => "neither together with rise or fall on a line",
             10 => "operation above 9",
             11 => "bytes left over",
-            12 => "output too short (the place is the bytes needed)",
+            12 => "output too short (the place is what is needed)",
             13 => "stream ends inside a command or item",
             14 => "opcode other than the one due",
             15 => "address unknown, not rising, or not the one due",
@@ -49,6 +53,8 @@ impl Refusal {
             17 => "wrong word count (the place is the count needed)",
             18 => "a state's field too big for its place",
             19 => "label the same as an earlier one of its section",
+            20 => "too many samples (the place is the most)",
+            24 => "state above 15, or count not below its number",
             _ => "not a refusal's number",
         }
     }
@@ -120,6 +126,17 @@ mod raw {
         pub fn voltamar_term_hit(target: u32, mask: u32, sample: u32) -> bool;
         pub fn voltamar_range_hit(lower: u32, upper: u32, mask: u32, sample: u32) -> bool;
         pub fn voltamar_edge_hit(rise: u32, fall: u32, neither: u32, earlier: u32, later: u32) -> bool;
+        pub fn voltamar_bench(
+            sheet: *const u8,
+            n: usize,
+            samples: *const u32,
+            k: usize,
+            run: *mut u32,
+            run_words: usize,
+            out: *mut u32,
+            room: usize,
+            place: *mut usize,
+        ) -> u8;
     }
 }
 
@@ -291,4 +308,66 @@ pub fn range_hit(lower: u32, upper: u32, mask: u32, sample: u32) -> bool {
 #[inline]
 pub fn edge_hit(rise: u32, fall: u32, neither: u32, earlier: u32, later: u32) -> bool {
     unsafe { raw::voltamar_edge_hit(rise, fall, neither, earlier, later) }
+}
+
+/// What one call of [`bench()`] hands on to the next. The default is a fresh run: state 0, count 0, no word before the
+/// first sample, not ended.
+#[derive(Clone, Copy, Debug, Default, PartialEq, Eq)]
+pub struct Run {
+    /// From 0 to 15.
+    pub state: u32,
+    /// How often the state's hit sum has matched; below the state's number.
+    pub count: u32,
+    /// The sample before the next one.
+    pub earlier: Option<u32>,
+    pub ended: bool,
+}
+
+impl Run {
+    fn words(&self) -> [u32; 5] {
+        let earlier = self.earlier.unwrap_or(0);
+        [self.state, self.count, self.earlier.is_some().into(), earlier, self.ended.into()]
+    }
+
+    /// Of words that the library wrote.
+    fn of_words([state, count, has_earlier, earlier, ended]: [u32; 5]) -> Run {
+        Run { state, count, earlier: (has_earlier == 1).then_some(earlier), ended: ended == 1 }
+    }
+}
+
+/// Runs a sheet's programme over samples. Writes those that capture takes, in their order, to the start of `out`, and
+/// answers how many, and the run to hand to the next call: samples in pieces give what one call gives. Room for as many
+/// words as there are samples is always enough.
+///
+/// ```
+/// use voltamar::{bench, Run};
+/// // one sum, in slot 2: the capture sum of state 0, which matches always
+/// let sheet = b"\0\0\0\x01\x02CAPTURE \0\0\0\0\0\0\0\0\0\0\x01\0";
+/// let mut out = [0; 4];
+/// let (taken, run) = bench(sheet, &[7, 8], Run::default(), &mut out)?;
+/// assert_eq!((taken, out), (2, [7, 8, 0, 0]));
+/// assert_eq!(run, Run { earlier: Some(8), ..Run::default() });
+/// let (taken, run) = bench(sheet, &[9], run, &mut out[taken..])?;
+/// assert_eq!((taken, run.earlier, out), (1, Some(9), [7, 8, 9, 0]));
+/// let short = bench(sheet, &[7, 8], Run::default(), &mut out[..1]);
+/// assert_eq!(short, Err(voltamar::Refusal { number: 12, place: 2 }));
+/// # Ok::<(), voltamar::Refusal>(())
+/// ```
+#[inline]
+pub fn bench(sheet: &[u8], samples: &[u32], run: Run, out: &mut [u32]) -> Result<(usize, Run), Refusal> {
+    let (mut run, mut place) = (run.words(), 0);
+    let number = unsafe {
+        raw::voltamar_bench(
+            sheet.as_ptr(),
+            sheet.len(),
+            samples.as_ptr(),
+            samples.len(),
+            run.as_mut_ptr(),
+            run.len(),
+            out.as_mut_ptr(),
+            out.len(),
+            &mut place,
+        )
+    };
+    answer(number, place, (place, Run::of_words(run)))
 }

@@ -1,6 +1,6 @@
 //! How a refusal is said, and that it can be handed on as an error.
 use std::error::Error;
-use voltamar::{check, notice, Refusal};
+use voltamar::{bench, check, notice, Refusal, Run, MOST_SAMPLES};
 
 #[test]
 fn refusals_are_errors() {
@@ -26,8 +26,21 @@ fn refusals_are_errors() {
 
 #[test]
 fn every_number_has_a_meaning() {
-    for number in 1..=19 {
-        assert_ne!(Refusal { number, place: 0 }.meaning(), "not a refusal's number");
+    let none = "not a refusal's number";
+    for number in 0..=u8::MAX {
+        let is_one = matches!(number, 1..=20 | 24);
+        assert_eq!(Refusal { number, place: 0 }.meaning() != none, is_one, "{number}");
     }
-    assert_eq!(Refusal { number: 20, place: 0 }.meaning(), "not a refusal's number");
+}
+
+#[test]
+fn what_the_bench_says() {
+    // one sum, in slot 2: the capture sum of state 0, which matches always
+    let sheet = b"\0\0\0\x01\x02CAPTURE \0\0\0\0\0\0\0\0\0\0\x01\0";
+    let said = |samples, run| bench(sheet, samples, run, &mut []).unwrap_err().to_string();
+    let many = [0; MOST_SAMPLES + 1];
+    assert_eq!(said(&many, Run::default()), "refused 20 at 4096: too many samples (the place is the most)");
+    let run = Run { count: 1, ..Run::default() };
+    assert_eq!(said(&[], run), "refused 24 at 0: state above 15, or count not below its number");
+    assert_eq!(said(&[1, 2], Run::default()), "refused 12 at 2: output too short (the place is what is needed)");
 }

@@ -1,7 +1,7 @@
-//! The files of examples/: sample sheets and what the calls give for them.
+//! The files of examples/: sample sheets and what the calls give for them, of the lift also for a recording.
 use crate::make::{self, Setup};
 use crate::sheet;
-use crate::{notice, read, LONGEST_NOTICE, LONGEST_SHEET, SECTIONS, SIZE};
+use crate::{bench, notice, read, Run, LONGEST_NOTICE, LONGEST_SHEET, SECTIONS, SIZE};
 use std::fmt::Write;
 
 /// Adds a record to a section of a sheet in the making.
@@ -210,6 +210,18 @@ fn noticed(old: &Setup, new: &Setup) -> Vec<u8> {
     out
 }
 
+/// A recording of the lift's lines, which is stored and not made.
+const RECORDING: &[u8] = include_bytes!("../../../examples/lift.words");
+
+/// The words that a sheet takes of a recording, in a fresh run.
+fn taken(setup: &Setup, recording: &[u8]) -> Vec<u8> {
+    let words: Vec<u32> =
+        recording.chunks_exact(4).map(|four| u32::from_le_bytes(four.try_into().expect("four bytes"))).collect();
+    let mut out = vec![0; words.len()];
+    let (length, _) = bench(&setup.sheet(), &words, Run::default(), &mut out).expect("an accepted sheet, with room");
+    out[..length].iter().flat_map(|word| word.to_le_bytes()).collect()
+}
+
 /// Every file: its name and its bytes.
 pub fn files() -> Vec<(String, Vec<u8>)> {
     let mut files = Vec::new();
@@ -223,5 +235,6 @@ pub fn files() -> Vec<(String, Vec<u8>)> {
     }
     files.push(("old-new.notice".into(), noticed(&old(), &new())));
     files.push(("lift-revised.notice".into(), noticed(&lift(), &revised())));
+    files.push(("lift.taken".into(), taken(&lift(), RECORDING)));
     files
 }

@@ -1,12 +1,15 @@
 //! The rules of the set-up sheet once more, in plain Rust: written from the rules alone, with nothing of the proved
 //! crates, so that where both give the same bytes two readings agree. Needs no library.
+mod bench;
 mod detect;
 pub mod examples;
 pub mod make;
 mod notice;
+pub mod programmes;
 mod sheet;
 mod stream;
 
+pub use bench::{bench, bench_words, Run, MOST_SAMPLES};
 pub use detect::{edge_hit, gather, range_hit, run_edge, run_range, run_sum, run_term, term_hit};
 pub use detect::{edge_words, range_words, state_word, sum_words, term_words};
 pub use detect::{read_edge, read_range, read_state, read_sum, read_term};
@@ -17,7 +20,8 @@ pub use stream::{compile, read, LONGEST_STREAM};
 /// The longest notice: every slot of both sheets with a changed label and a changed description.
 pub const LONGEST_NOTICE: usize = 2172;
 
-/// A refusal: its number, and its place (for 12 the bytes needed, for 17 the words needed).
+/// A refusal: its number, and its place (for 12 the bytes needed, of the bench the words; for 17 the words needed; for
+/// 20 the most samples).
 #[derive(Clone, Copy, Debug, PartialEq, Eq)]
 pub struct Refusal {
     pub number: u8,

@@ -645,7 +645,7 @@ pub fn words(random: &mut Random, count: usize) -> Vec<u32> {
 
 /// How often each answer came: 0 done, else the refusal's number.
 #[derive(Default, Debug)]
-pub struct Tally([usize; 20]);
+pub struct Tally([usize; 25]);
 
 impl Tally {
     pub fn count(&mut self, number: u8) {

@@ -1,10 +1,15 @@
 //! What is stored in examples/ is what the plain implementation makes.
+use plain::{bench, Run};
+
+fn stored(name: &str) -> Vec<u8> {
+    std::fs::read(format!("{}/../../examples/{name}", env!("CARGO_MANIFEST_DIR"))).expect(name)
+}
+
 #[test]
 fn examples_are_as_made() {
-    let folder = concat!(env!("CARGO_MANIFEST_DIR"), "/../../examples");
     let files = plain::examples::files();
     for (name, bytes) in &files {
-        let stored = std::fs::read(format!("{folder}/{name}")).expect(name);
+        let stored = stored(name);
         assert!(stored == *bytes, "examples/{name} is not what the program makes");
     }
     let bytes = |name: &str| &files.iter().find(|file| file.0 == name).expect(name).1;
@@ -34,4 +39,51 @@ fn examples_are_as_made() {
     assert!(
         bytes("lift.commands.txt").starts_with(b"   0  9E 00 00 00 00  select 00\n   5  9F 03 00 00 3C    3C000003\n")
     );
+}
+
+fn words(bytes: &[u8]) -> Vec<u32> {
+    assert_eq!(bytes.len() % 4, 0);
+    bytes.chunks(4).map(|four| u32::from_le_bytes(four.try_into().expect("four bytes"))).collect()
+}
+
+#[test]
+fn the_lift_takes_what_is_stored() {
+    let (samples, taken) = (words(&stored("lift.words")), words(&stored("lift.taken")));
+    assert_eq!((samples.len(), taken.len()), (162, 27));
+    let mut out = [0; 27];
+    let (length, run) = bench(&stored("lift.sheet"), &samples, Run::default(), &mut out).expect("accepted, with room");
+    assert_eq!((length, &out[..]), (27, &taken[..]));
+    assert_eq!(run, Run { state: 3, count: 0, earlier: Some(samples[159]), ended: true });
+}
+
+/// The rows of the page's tables: sample, word, what happens, hits, matches, then, taken.
+fn rows(page: &str) -> Vec<Vec<&str>> {
+    let rows = page.lines().filter(|line| line.starts_with("| ") && line.as_bytes()[2].is_ascii_digit());
+    rows.map(|row| row.trim_matches('|').split('|').map(str::trim).collect()).collect()
+}
+
+/// What the page tells of each sample, or of some in a row: its word, state and count after it, whether it is taken.
+#[test]
+fn the_page_tells_what_the_lift_takes() {
+    let (sheet, samples) = (stored("lift.sheet"), words(&stored("lift.words")));
+    let (page, states) = (String::from_utf8(stored("lift-words.md")).expect("text"), plain::section(&sheet, 4).1);
+    let (mut at, mut run) = (0, Run::default());
+    for row in rows(&page) {
+        let last = row[0].rsplit(' ').next().and_then(|last| last.parse().ok()).expect("a sample's number");
+        assert_eq!(row[0], if at == last { format!("{at}") } else { format!("{at} to {last}") });
+        assert_eq!(row[1], format!("{:08X}", samples[at]));
+        assert_eq!(row[5].ends_with(": not looked at"), run.ended);
+        for &sample in &samples[at..=last] {
+            let (taken, next) = bench(&sheet, &[sample], run, &mut [0]).expect("accepted, with room");
+            assert_eq!(row[6], ["no", "taken"][taken], "samples {}", row[0]);
+            assert_eq!(row[4].ends_with("CAPT"), taken == 1, "samples {}", row[0]);
+            assert_eq!(row[5].ends_with("the run ends"), next.ended && !run.ended, "samples {}", row[0]);
+            run = next;
+        }
+        let label = &sheet[states + 22 * run.state as usize + 1..][..8];
+        let then = format!("{} {}: ", String::from_utf8_lossy(label).trim_end(), run.count);
+        assert!(row[5].starts_with(&then), "samples {}: {then}", row[0]);
+        at = last + 1;
+    }
+    assert_eq!(at, samples.len(), "every sample has its row");
 }
