@@ -1,3 +1,4 @@
+use native.Mathlib.Omega.{arith}
 use Rattle.bench.specs.Asking.{addressesOf}
 use borrow.Author.Needs.{needs}
 use Rattle.bench.proofs.sums.addresses_of.Statement.{statement}
@@ -19,10 +20,14 @@ mul-result c = search needs
 add-result : tie.Need-add-result
 add-result c = search needs
 
+mul-result-2 : tie.Need-mul-result-2
+mul-result-2 c = search needs
+
 returns : tie.Need-returns
 unfolding addressesOf
-returns c = rw (c .before .first-four .ensures .0, c .last-four .ensures .0)
+returns c = omega arith
 
 pub addresses-of-spec : {M : Type 1} → statement M
 addresses-of-spec =
-    tie.close (tie.spec first-four-requires last-four-requires mul-result add-result returns)
+    tie.close
+    (tie.spec first-four-requires last-four-requires mul-result add-result mul-result-2 returns)
