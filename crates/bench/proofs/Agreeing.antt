@@ -1,19 +1,19 @@
 -- Two machines that answer alike run alike from every accepted start. Assumes nothing.
-use Prim.Native.Nat.{ℕ, suc, _+_, _*_, _^_, _≤_, _<_}
+use Prim.Native.Nat.{ℕ, _+_, _*_, _<_}
 use mathlib.Core.Path.{_≡_, refl, sym, ap, ap₂, _∙_}
 use mathlib.Core.Bool.{Bool, true, false, cond, not, _&&_}
 use mathlib.Core.List.{List, [], _∷_}
 use native.Mathlib.Decide.{decLt}
 use native.Mathlib.Omega.{arith}
-use borrow.Author.Tests.{lt-ltb, le-ltb}
+use borrow.Author.Tests.{le-ltb}
 use lib.Dec.{ltb}
-use lib.ListN.{length, getD}
+use lib.ListN.{length}
+use Rattle.programme.specs.Machine.{Machine, Agree}
 use Rattle.bench.specs.declared.Moved.{Moved}
 use Rattle.bench.specs.declared.Run.{Run}
 use Rattle.bench.specs.declared.Benched.{Benched}
 use Rattle.bench.specs.declared.Benched.the-variants.{Done, Refused}
-use Rattle.programme.specs.Machine.{Machine, Agree}
-use Rattle.bench.specs.Run.{numberOf, earlierOf, captureSlot, hitSlot, elseSlot, moved, standing, sourcesOn, step, takes, next, captures, handedOn, taken, startAccepted}
+use Rattle.bench.specs.Run.{numberOf, earlierOf, captureSlot, moved, standing, sourcesOn, step, takes, next, captures, handedOn, taken, startAccepted}
 use Rattle.bench.specs.Call.{delivered, answered}
 use Rattle.bench.proofs.Standing.{Stands, next-stands, accepted-stands}
 

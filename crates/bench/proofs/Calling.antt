@@ -2,8 +2,7 @@
 use Prim.Native.Nat.{ℕ, _-_, _≤_, _<_}
 use mathlib.Core.Path.{_≡_, refl, sym, ap, ap₂, _∙_, subst}
 use mathlib.Core.Bool.{Bool, true, false, cond, not, _&&_, true≢false}
-use mathlib.Core.List.{List, [], _∷_, _++_}
-use native.Mathlib.Nat.{zero-add}
+use mathlib.Core.List.{List, [], _∷_}
 use native.Mathlib.Omega.{arith}
 use borrow.Author.Tests.{lt-ltb, le-ltb}
 use lib.Dec.{ltb}
@@ -12,11 +11,11 @@ use lib.Seq.{take-append-seam}
 use Rattle.buffer.specs.Room.{bytes, fill, Delivered}
 use Rattle.buffer.specs.declared.Outcome.{Outcome}
 use Rattle.buffer.proofs.Writing.{stored, filled}
+use Rattle.programme.specs.Machine.{Machine}
 use Rattle.bench.specs.declared.Run.{Run}
 use Rattle.bench.specs.declared.Walked.{Walked}
 use Rattle.bench.specs.declared.Benched.{Benched}
 use Rattle.bench.specs.declared.Benched.the-variants.{Done, Refused}
-use Rattle.programme.specs.Machine.{Machine}
 use Rattle.bench.specs.Run.{earlierOf, step, takes, next, captures, handedOn, taken, startAccepted}
 use Rattle.bench.specs.Call.{mostSamples, delivered, answered, leftBy}
 use Rattle.bench.specs.Walk.{runFrom, ranTo, Walks, Delivers, Answers}

@@ -3,10 +3,9 @@ use Prim.Native.Nat.{ℕ, _+_, _*_}
 use mathlib.Core.Path.{_≡_, ap₂, _∙_}
 use mathlib.Core.Bool.{Bool}
 use mathlib.Core.List.{List}
-use Rattle.bench.specs.Asking.{addressesOf, sumAsked}
-use Rattle.programme.specs.Machine.{Machine}
-use Rattle.bench.proofs.Asking.{sum-asked}
 use Rattle.programme.specs.Table.{sixAt, plain}
+use Rattle.bench.specs.Asking.{addressesOf, sumAsked}
+use Rattle.bench.proofs.Asking.{sum-asked}
 
 -- the six words from an index on, asked at the addresses of sources, match as the slot does
 pub slot-matches : (table : List ℕ) (slot at addresses sources : ℕ) (b : Bool) → b ≡ sumAsked (sixAt table at) addresses → at ≡ 32 + 6 * slot

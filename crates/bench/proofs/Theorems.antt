@@ -2,7 +2,7 @@
 use Prim.Native.Nat.{ℕ, _+_, _-_, _≤_}
 use mathlib.Core.Path.{_≡_, refl, sym, ap, ap₂, _∙_}
 use mathlib.Core.Bool.{Bool, true, false, cond, not}
-use mathlib.Core.List.{List, [], _∷_, _++_}
+use mathlib.Core.List.{List, _++_}
 use native.Mathlib.Omega.{arith}
 use borrow.Author.Tests.{le-ltb}
 use lib.Dec.{ltb}
@@ -15,12 +15,12 @@ use Rattle.bench.specs.declared.Run.{Run}
 use Rattle.bench.specs.declared.Benched.{Benched}
 use Rattle.bench.specs.declared.Benched.the-variants.{Done, Refused}
 use Rattle.bench.specs.Run.{handedOn, taken, startAccepted, Subsequence}
-use Rattle.bench.specs.Call.{mostSamples, delivered, answered, unless, machineOf, benched, benchedLeft}
-use Rattle.bench.specs.Handed.{isRun, noRun, runOf, flagOf, wordsOf}
+use Rattle.bench.specs.Call.{mostSamples, delivered, answered, machineOf, benched, benchedLeft}
+use Rattle.bench.specs.Handed.{isRun, runOf, wordsOf}
 use Rattle.bench.proofs.Pieces.{handed-pieces, taken-pieces, ended-hands-on, ended-takes-nothing, taken-subsequence}
 use Rattle.bench.proofs.Calling.{ended-delivered}
 use Rattle.bench.proofs.Standing.{handed-accepted}
-use Rattle.bench.proofs.Succeeding.{Did, accepts, sheet-accepted, bench-did, does, writes}
+use Rattle.bench.proofs.Succeeding.{accepts, sheet-accepted, bench-did, does, writes}
 
 -- ---- two pieces
 

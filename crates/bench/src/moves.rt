@@ -2,8 +2,7 @@
 ghost use mathlib.Core.Path.{_≡_};
 ghost use Prim.Native.Nat.{ℕ, _+_, _*_, _<_, _≤_};
 ghost use lib.ListN.{length};
-ghost use Rattle.bench.specs.Run.{numberOf, elseOf, isLast, afterHit, moved, captureSlot};
-ghost use Rattle.programme.specs.Machine.{Machine};
+ghost use Rattle.bench.specs.Run.{numberOf, afterHit, moved, captureSlot};
 ghost use Rattle.programme.specs.Table.{tableLength, plain};
 ghost use Rattle.bench.specs.Asking.{addressesOf};
 use crate::Moved;

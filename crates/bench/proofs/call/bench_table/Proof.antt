@@ -1,21 +1,14 @@
-use Rattle.programme.specs.Table.{plain}
-use Rattle.bench.specs.Walk.{runFrom, ranTo}
-use native.Mathlib.Omega.{arith}
-use mathlib.Core.Path.{_≡_, refl, sym, _∙_}
+-- `bench_table` meets its contract: the refusals in their order, then the walk. Assumes nothing.
+use mathlib.Core.Path.{sym, _∙_}
 use borrow.Author.Tests.{not-true, not-false}
-use mathlib.Core.Bool.{true, false}
-use Rattle.bench.specs.Run.{startAccepted, handedOn, taken}
+use borrow.Author.Needs.{needs}
+use Rattle.programme.specs.Table.{plain}
+use Rattle.bench.specs.Run.{taken}
 use Rattle.bench.proofs.Pieces.{ended-hands-on, ended-takes-nothing}
 use Rattle.bench.proofs.Standing.{accepted-stands}
 use Rattle.bench.proofs.Calling.{refused-20, refused-24, looked, nothing-taken, from-first, empty-takes, empty-hands}
-use borrow.Author.Needs.{needs}
 use Rattle.bench.proofs.call.bench_table.Statement.{statement}
 use Rattle.bench.proofs.call.bench_table.Tie as tie
-use Rattle.bench.proofs.call.bench_table.Reads as reads
-use Rattle.bench.proofs.call.bench_table.Lts as lts
-use Rattle.bench.proofs.call.deliver.Reads as deliver-reads
-use Rattle.bench.proofs.call.earlier_of.Reads as earlier-of-reads
-use Rattle.bench.proofs.call.start_accepted.Reads as start-accepted-reads
 
 returns : tie.Need-returns
 returns c = let a = c .before .before .before .before .args in refused-20 (plain (a .table .now)) (a .samples .now) (a .run) (a .out .now) (c .if1 .taken)

@@ -1,14 +1,9 @@
-use native.Mathlib.Omega.{arith}
+-- `deliver` meets its contract: the walk writes right into the lent words. Assumes nothing.
+use borrow.Author.Needs.{needs}
 use Rattle.programme.specs.Table.{plain}
 use Rattle.bench.proofs.Calling.{walked-into}
-use borrow.Author.Needs.{needs}
 use Rattle.bench.proofs.call.deliver.Statement.{statement}
 use Rattle.bench.proofs.call.deliver.Tie as tie
-use Rattle.bench.proofs.call.deliver.Reads as reads
-use Rattle.bench.proofs.call.deliver.Lts as lts
-use Rattle.bench.proofs.call.deliver_judged.Reads as deliver-judged-reads
-use Rattle.bench.proofs.call.done.Reads as done-reads
-use Rattle.bench.proofs.walk.walk.Reads as walk-reads
 
 deliver-judged-requires : tie.Need-deliver-judged-requires
 deliver-judged-requires c κs = search needs

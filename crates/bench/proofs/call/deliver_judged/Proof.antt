@@ -1,15 +1,11 @@
+-- `deliver_judged` meets its contract: what the walk took is judged, then copied. Assumes nothing.
 use native.Mathlib.Omega.{arith}
+use borrow.Author.Needs.{needs}
 use Rattle.programme.specs.Table.{plain}
 use Rattle.bench.specs.Walk.{runFrom}
 use Rattle.bench.proofs.Calling.{too-short, walk-few, walked-apart}
-use borrow.Author.Needs.{needs}
 use Rattle.bench.proofs.call.deliver_judged.Statement.{statement}
 use Rattle.bench.proofs.call.deliver_judged.Tie as tie
-use Rattle.bench.proofs.call.deliver_judged.Reads as reads
-use Rattle.bench.proofs.call.deliver_judged.Lts as lts
-use Rattle.bench.proofs.call.done.Reads as done-reads
-use Rattle.bench.proofs.walk.walk.Reads as walk-reads
-use Rattle.buffer.proofs.put_words.Reads as put-words-reads
 
 slice-aggregate-walk : tie.Need-slice-aggregate-walk
 slice-aggregate-walk c = search needs

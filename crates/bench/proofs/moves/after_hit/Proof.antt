@@ -1,12 +1,9 @@
+-- `after_hit` meets its contract: one return for each end of a hit. Assumes nothing.
 use borrow.Author.Tests.{lt-ltb, le-ltb, eq-eqb, ne-eqb}
-use Rattle.bench.specs.Run.{afterHit}
 use borrow.Author.Needs.{needs}
+use Rattle.bench.specs.Run.{afterHit}
 use Rattle.bench.proofs.moves.after_hit.Statement.{statement}
 use Rattle.bench.proofs.moves.after_hit.Tie as tie
-use Rattle.bench.proofs.moves.after_hit.Reads as reads
-use Rattle.bench.proofs.moves.after_hit.Lts as lts
-use Rattle.bench.proofs.moves.number_of.Reads as number-of-reads
-use Rattle.lines.proofs.line_value.Reads as line-value-reads
 
 add-if1 : tie.Need-add-if1
 add-if1 c = search needs

@@ -1,20 +1,13 @@
-use native.Mathlib.Omega.{arith}
+-- `move_on` meets its contract: by the hit sum, else by the else sum, else it stays. Assumes nothing.
 use mathlib.Core.Path.{_≡_, sym, _∙_}
-use mathlib.Core.Bool.{Bool, true, false}
-use Rattle.bench.proofs.Slots.{slot-matches}
-use Prim.Native.Nat.{_+_, _*_}
-use Rattle.bench.specs.Run.{hitSlot, elseSlot, moved}
-use Rattle.programme.specs.Machine.{Machine}
-use Rattle.programme.specs.Table.{plain}
+use mathlib.Core.Bool.{true, false}
+use native.Mathlib.Omega.{arith}
 use borrow.Author.Needs.{needs}
+use Rattle.programme.specs.Table.{plain}
+use Rattle.bench.specs.Run.{hitSlot, elseSlot, moved}
+use Rattle.bench.proofs.Slots.{slot-matches}
 use Rattle.bench.proofs.moves.move_on.Statement.{statement}
 use Rattle.bench.proofs.moves.move_on.Tie as tie
-use Rattle.bench.proofs.moves.move_on.Reads as reads
-use Rattle.bench.proofs.moves.move_on.Lts as lts
-use Rattle.bench.proofs.moves.after_hit.Reads as after-hit-reads
-use Rattle.bench.proofs.moves.sums_of.Reads as sums-of-reads
-use Rattle.bench.proofs.moves.word_of.Reads as word-of-reads
-use Rattle.bench.proofs.sums.sum_at.Reads as sum-at-reads
 
 word-of-requires : tie.Need-word-of-requires
 word-of-requires c κs = search needs

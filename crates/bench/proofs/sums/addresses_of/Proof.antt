@@ -1,12 +1,9 @@
+-- `addresses_of` meets its contract. Assumes nothing.
 use native.Mathlib.Omega.{arith}
-use Rattle.bench.specs.Asking.{addressesOf}
 use borrow.Author.Needs.{needs}
+use Rattle.bench.specs.Asking.{addressesOf}
 use Rattle.bench.proofs.sums.addresses_of.Statement.{statement}
 use Rattle.bench.proofs.sums.addresses_of.Tie as tie
-use Rattle.bench.proofs.sums.addresses_of.Reads as reads
-use Rattle.bench.proofs.sums.addresses_of.Lts as lts
-use Rattle.bench.proofs.sums.first_four.Reads as first-four-reads
-use Rattle.bench.proofs.sums.last_four.Reads as last-four-reads
 
 first-four-requires : tie.Need-first-four-requires
 first-four-requires c κs = search needs

@@ -1,11 +1,9 @@
+-- `inputs_at` meets its contract. Assumes nothing.
 use native.Mathlib.Omega.{arith}
-use Rattle.bench.specs.Asking.{inputsAt}
 use borrow.Author.Needs.{needs}
+use Rattle.bench.specs.Asking.{inputsAt}
 use Rattle.bench.proofs.sums.inputs_at.Statement.{statement}
 use Rattle.bench.proofs.sums.inputs_at.Tie as tie
-use Rattle.bench.proofs.sums.inputs_at.Reads as reads
-use Rattle.bench.proofs.sums.inputs_at.Lts as lts
-use Rattle.bench.proofs.sums.answer_in.Reads as answer-in-reads
 
 answer-in-requires : tie.Need-answer-in-requires
 answer-in-requires c κs = search needs

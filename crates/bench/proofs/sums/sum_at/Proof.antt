@@ -1,12 +1,9 @@
-use Rattle.bench.specs.Asking.{sumAsked}
-use Rattle.programme.specs.Table.{sixAt}
+-- `sum_at` meets its contract. Assumes nothing.
 use borrow.Author.Needs.{needs}
+use Rattle.programme.specs.Table.{sixAt}
+use Rattle.bench.specs.Asking.{sumAsked}
 use Rattle.bench.proofs.sums.sum_at.Statement.{statement}
 use Rattle.bench.proofs.sums.sum_at.Tie as tie
-use Rattle.bench.proofs.sums.sum_at.Reads as reads
-use Rattle.bench.proofs.sums.sum_at.Lts as lts
-use Rattle.bench.proofs.sums.inputs_at.Reads as inputs-at-reads
-use Rattle.lut.proofs.answer_at.Reads as answer-at-reads
 
 add-inputs-at : tie.Need-add-inputs-at
 add-inputs-at c = search needs

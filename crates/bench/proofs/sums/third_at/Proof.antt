@@ -1,13 +1,9 @@
+-- `third_at` meets its contract. Assumes nothing.
 use native.Mathlib.Omega.{arith}
-use Rattle.lines.proofs.Digit.{bit-lt}
-use Prim.Native.Nat.{_/_, _^_}
-use Rattle.bench.specs.Asking.{addressAt}
 use borrow.Author.Needs.{needs}
+use Rattle.bench.specs.Asking.{addressAt}
 use Rattle.bench.proofs.sums.third_at.Statement.{statement}
 use Rattle.bench.proofs.sums.third_at.Tie as tie
-use Rattle.bench.proofs.sums.third_at.Reads as reads
-use Rattle.bench.proofs.sums.third_at.Lts as lts
-use Rattle.lines.proofs.line_value.Reads as line-value-reads
 
 line-value-requires : tie.Need-line-value-requires
 line-value-requires c κs = search needs

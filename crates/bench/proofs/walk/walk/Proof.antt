@@ -1,24 +1,16 @@
-use Rattle.bench.specs.Run.{standing}
-use Prim.Native.Nat.{_+_}
+-- `walk` meets its contract: the loop's invariant is `Walking`, stepped by its laws. Assumes nothing.
+use Prim.Native.Nat.{_+_, _≤_, _-_}
+use mathlib.Core.Path.{_≡_, refl}
 use native.Mathlib.Omega.{arith}
-use mathlib.Core.Path.{_≡_, refl, sym, ap, _∙_}
-use Prim.Native.Nat.{_≤_, _<_, _-_}
+use borrow.Author.Needs.{needs}
 use lib.ListN.{length, getD}
-use Rattle.programme.specs.Machine.{Machine}
-use Rattle.bench.specs.Run.{numberOf}
 use Rattle.programme.specs.Table.{plain}
-use Rattle.bench.specs.Walk.{runFrom, Starts}
+use Rattle.bench.specs.Run.{standing}
+use Rattle.bench.specs.Walk.{runFrom}
 use Rattle.bench.proofs.Standing.{number-within}
 use Rattle.bench.proofs.Walking.{Walking, walk-starts, walk-turns, walk-on, walk-ends, walk-stops}
-use borrow.Author.Needs.{needs}
 use Rattle.bench.proofs.walk.walk.Statement.{statement}
 use Rattle.bench.proofs.walk.walk.Tie as tie
-use Rattle.bench.proofs.walk.walk.Reads as reads
-use Rattle.bench.proofs.walk.walk.Lts as lts
-use Rattle.bench.proofs.moves.capture_matches.Reads as capture-matches-reads
-use Rattle.bench.proofs.moves.move_on.Reads as move-on-reads
-use Rattle.bench.proofs.sources.sources_of.Reads as sources-of-reads
-use Rattle.bench.proofs.walk.put_word.Reads as put-word-reads
 
 abbrev Inv-loop : tie.InvT-loop
 Inv-loop table samples state count earlier out₀ state₀ count₀ earlier₀ n₀ i₀ out state' count' earlier' n i =
