@@ -23,18 +23,38 @@ line-value-requires c κs = search needs
 
 returns-2 : tie.Need-returns-2
 unfolding afterHit
-returns-2 c = rw (← c .before .before .before .number-of .ensures .0, le-ltb _ _ (c .before .before .if1 .left), ← c .before .line-value .ensures, eq-eqb _ _ (c .if2 .taken))
+returns-2 c =
+    let f = c .before .before in
+    rw (← f .before .number-of .ensures .0, le-ltb _ _ (f .if1 .left), ← c .before .line-value .ensures, eq-eqb _ _ (c .if2 .taken))
 
 returns-3 : tie.Need-returns-3
 unfolding afterHit
-returns-3 c = rw (← c .before .before .before .before .number-of .ensures .0, le-ltb _ _ (c .before .before .before .if1 .left), ← c .before .before .line-value .ensures, ne-eqb _ _ (c .before .if2 .left), eq-eqb _ _ (c .if3 .taken))
+returns-3 c =
+    let v = c .before .before in
+    let f = v .before in
+    rw (
+      ← f .before .number-of .ensures .0,
+      le-ltb _ _ (f .if1 .left),
+      ← v .line-value .ensures,
+      ne-eqb _ _ (c .before .if2 .left),
+      eq-eqb _ _ (c .if3 .taken),
+    )
 
 add-t5 : tie.Need-add-t5
 add-t5 c = search needs
 
 returns-4 : tie.Need-returns-4
 unfolding afterHit
-returns-4 c = rw (← c .before .before .before .before .number-of .ensures .0, le-ltb _ _ (c .before .before .before .if1 .left), ← c .before .before .line-value .ensures, ne-eqb _ _ (c .before .if2 .left), ne-eqb _ _ (c .if3 .left))
+returns-4 c =
+    let v = c .before .before in
+    let f = v .before in
+    rw (
+      ← f .before .number-of .ensures .0,
+      le-ltb _ _ (f .if1 .left),
+      ← v .line-value .ensures,
+      ne-eqb _ _ (c .before .if2 .left),
+      ne-eqb _ _ (c .if3 .left),
+    )
 
 pub after-hit-spec : {M : Type 1} → statement M
 after-hit-spec =

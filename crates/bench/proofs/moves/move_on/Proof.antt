@@ -38,19 +38,21 @@ sum-at-requires-2 c κs = search needs
 returns-2 : tie.Need-returns-2
 unfolding moved
 returns-2 c = λ s e.
-    let a = c .before .before .before .before .before .before .before .args in
+    let h = c .before .before .before in
+    let a = h .before .before .before .before .args in
     let miss : plain (a .table .now) .matches (hitSlot (a .state)) s ≡ false =
-    sym (slot-matches (a .table .now) (hitSlot (a .state)) _ _ s _ (c .before .before .before .sum-at .ensures) (omega arith) e) ∙ c .before .before .if1 .left in
+    sym (slot-matches (a .table .now) (hitSlot (a .state)) _ _ s _ (h .sum-at .ensures) (omega arith) e) ∙ c .before .before .if1 .left in
     let other : plain (a .table .now) .matches (elseSlot (a .state)) s ≡ true =
     sym (slot-matches (a .table .now) (elseSlot (a .state)) _ _ s _ (c .before .sum-at2 .ensures) (omega arith) e) ∙ c .if2 .taken in
-    rw (miss, other, ← c .before .before .before .before .before .word-of .ensures)
+    rw (miss, other, ← h .before .before .word-of .ensures)
 
 returns-3 : tie.Need-returns-3
 unfolding moved
 returns-3 c = λ s e.
-    let a = c .before .before .before .before .before .before .before .args in
+    let h = c .before .before .before in
+    let a = h .before .before .before .before .args in
     let miss : plain (a .table .now) .matches (hitSlot (a .state)) s ≡ false =
-    sym (slot-matches (a .table .now) (hitSlot (a .state)) _ _ s _ (c .before .before .before .sum-at .ensures) (omega arith) e) ∙ c .before .before .if1 .left in
+    sym (slot-matches (a .table .now) (hitSlot (a .state)) _ _ s _ (h .sum-at .ensures) (omega arith) e) ∙ c .before .before .if1 .left in
     let other : plain (a .table .now) .matches (elseSlot (a .state)) s ≡ false =
     sym (slot-matches (a .table .now) (elseSlot (a .state)) _ _ s _ (c .before .sum-at2 .ensures) (omega arith) e) ∙ c .if2 .left in
     rw (miss, other)

@@ -79,7 +79,16 @@ answer-at-requires-3 c κs = search needs
 
 returns : tie.Need-returns
 unfolding sumAsked sixAt
-returns c = rw (c .answer-at3 .ensures, c .before .before .before .answer-at .ensures, c .before .before .answer-at2 .ensures, c .before .before .before .before .before .before .before .before .inputs-at .ensures .0, c .before .before .before .before .before .inputs-at2 .ensures .0)
+returns c =
+    let mids = c .before .before in
+    let last = mids .before .before .before in
+    rw (
+      c .answer-at3 .ensures,
+      mids .before .answer-at .ensures,
+      mids .answer-at2 .ensures,
+      last .before .before .before .inputs-at .ensures .0,
+      last .inputs-at2 .ensures .0,
+    )
 
 pub sum-at-spec : {M : Type 1} → statement M
 sum-at-spec =
