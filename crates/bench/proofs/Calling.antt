@@ -21,12 +21,21 @@ use Rattle.bench.specs.Call.{mostSamples, delivered, answered, leftBy}
 use Rattle.bench.specs.Walk.{runFrom, ranTo, Walks, Delivers, Answers}
 use Rattle.bench.proofs.Pieces.{ended-hands-on, ended-takes-nothing, taken-length}
 
+-- the refusals of the samples and of the run, in their order, before what is delivered
+abbrev pub inTurn : (many starts : Bool) → Benched → Benched
+inTurn many starts b = cond many (Refused 20 mostSamples) (cond (not starts) (Refused 24 0) b)
+
+-- the refusal of the room
+abbrev pub inRoom : (short : Bool) (words : List ℕ) → Run → Benched
+inRoom short words r = cond short (Refused 12 (length words)) (Done (length words) r)
+
 -- where nothing is taken any room will do
-none-delivered : (m : Machine) (xs : List ℕ) (r : Run) (room : ℕ) → taken m r xs ≡ [] → handedOn m r xs ≡ r → delivered m xs r room ≡ Done 0 r
+none-delivered : (m : Machine) (xs : List ℕ) (r : Run) (room : ℕ) → taken m r xs ≡ [] → handedOn m r xs ≡ r
+    → delivered m xs r room ≡ Done 0 r
 unfolding delivered
 none-delivered m xs r room et eh =
-    ap₂ (λ (l : List ℕ) (q : Run). cond (ltb room (length l)) (Refused 12 (length l)) (Done (length l) q)) et eh
-    ∙ ap (λ (b : Bool). cond b (Refused 12 0) (Done 0 r)) (le-ltb room 0 (omega arith))
+    ap₂ (λ (l : List ℕ) (q : Run). inRoom (ltb room (length l)) l q) et eh
+    ∙ ap (λ (b : Bool). inRoom b [] r) (le-ltb room 0 (omega arith))
 
 pub ended-delivered : (m : Machine) (xs : List ℕ) (r : Run) (room : ℕ) → r .ended ≡ true → delivered m xs r room ≡ Done 0 r
 ended-delivered m xs r room e = none-delivered m xs r room (ended-takes-nothing m r xs e) (ended-hands-on m r xs e)
@@ -43,9 +52,9 @@ module _ (m : Machine) (xs : List ℕ) (r : Run) (out : List ℕ) where
   unfolding delivered
   delivers b t r′ out′ l eb et er eo =
       record {
-        answer = eb ∙ ap₂ Done et er
-            ∙ sym (ap (λ (c : Bool). cond c (Refused 12 (length (taken m r xs))) (Done (length (taken m r xs)) (handedOn m r xs)))
-            (le-ltb (length out) (length (taken m r xs)) l));
+        answer =
+            eb ∙ ap₂ Done et er
+            ∙ sym (ap (λ (c : Bool). inRoom c (taken m r xs) (handedOn m r xs)) (le-ltb (length out) (length (taken m r xs)) l));
         left = eo ∙ ap (λ (c : Benched). leftBy c (taken m r xs) out) (sym eb);
       }
 
@@ -57,7 +66,8 @@ module _ (m : Machine) (xs : List ℕ) (r : Run) (out : List ℕ) where
   unfolding answered
   refused-24 h e = record { answer = simp (le-ltb _ _ h, e); left = refl }
 
-  pub looked : length xs ≤ mostSamples → startAccepted m r ≡ true → (b : Benched) (out′ : List ℕ) → Delivers m xs r out b out′ → Answers m xs r out b out′
+  pub looked : length xs ≤ mostSamples → startAccepted m r ≡ true → (b : Benched) (out′ : List ℕ) → Delivers m xs r out b out′
+      → Answers m xs r out b out′
   unfolding answered
   looked h e b out′ d = record { answer = d .answer ∙ simp (le-ltb _ _ h, e); left = d .left }
 
@@ -73,7 +83,8 @@ module _ (m : Machine) (xs : List ℕ) (state count earlier : ℕ) (room : List 
   walk-few = rw (walks .counted) (taken-length m (runFrom state count earlier) xs)
 
   -- right into the lent words
-  pub walked-into : (b : Benched) → length xs ≤ length room → b ≡ Done (w .taken) (ranTo w) → Delivers m xs (runFrom state count earlier) room b room′
+  pub walked-into : (b : Benched) → length xs ≤ length room → b ≡ Done (w .taken) (ranTo w)
+      → Delivers m xs (runFrom state count earlier) room b room′
   walked-into b h e =
       let r = runFrom state count earlier in
       let t = taken-length m r xs in
@@ -82,7 +93,8 @@ module _ (m : Machine) (xs : List ℕ) (state count earlier : ℕ) (room : List 
 
   -- into other room, of which what was taken is copied: `&room[0..taken]`
   pub walked-apart : (out out′ : List ℕ) (o : Outcome) (b : Benched) → length xs ≤ length room → w .taken ≤ length out
-      → Delivered (bytes (take (w .taken - 0) room′)) out o out′ → b ≡ Done (w .taken) (ranTo w) → Delivers m xs (runFrom state count earlier) out b out′
+      → Delivered (bytes (take (w .taken - 0) room′)) out o out′ → b ≡ Done (w .taken) (ranTo w)
+      → Delivers m xs (runFrom state count earlier) out b out′
   walked-apart out out′ o b h f d e =
       let r = runFrom state count earlier in
       let t = taken-length m r xs in
@@ -137,16 +149,18 @@ unfolding first delivered
 from-first m [] r out earlier b out′ e n ee d = absurd (n refl)
 from-first m (x ∷ xs) r out earlier b out′ e n ee d =
     let f = runFrom (r .state) (r .count) in
-    let t : taken m (f earlier) (x ∷ xs) ≡ taken m r (x ∷ xs) = ap (λ (w : ℕ). taken m (f w) (x ∷ xs)) ee ∙ sym (taken-first m r x e xs) in
-    let h : handedOn m (f earlier) (x ∷ xs) ≡ handedOn m r (x ∷ xs) = ap (λ (w : ℕ). handedOn m (f w) (x ∷ xs)) ee ∙ sym (handed-first m r x e xs) in
+    let t : taken m (f earlier) (x ∷ xs) ≡ taken m r (x ∷ xs) =
+    ap (λ (w : ℕ). taken m (f w) (x ∷ xs)) ee ∙ sym (taken-first m r x e xs) in
+    let h : handedOn m (f earlier) (x ∷ xs) ≡ handedOn m r (x ∷ xs) =
+    ap (λ (w : ℕ). handedOn m (f w) (x ∷ xs)) ee ∙ sym (handed-first m r x e xs) in
     record {
-      answer = d .answer ∙ ap₂ (λ (l : List ℕ) (q : Run). cond (ltb (length out) (length l)) (Refused 12 (length l)) (Done (length l) q)) t h;
+      answer = d .answer ∙ ap₂ (λ (l : List ℕ) (q : Run). inRoom (ltb (length out) (length l)) l q) t h;
       left = d .left ∙ ap (λ (l : List ℕ). leftBy b l out) t;
     }
 
 -- given room, the call is done
-pub given-room : (m : Machine) (xs : List ℕ) (r : Run) (room : ℕ) → length xs ≤ mostSamples → startAccepted m r ≡ true → length (taken m r xs) ≤ room
-    → answered m xs r room ≡ Done (length (taken m r xs)) (handedOn m r xs)
+pub given-room : (m : Machine) (xs : List ℕ) (r : Run) (room : ℕ) → length xs ≤ mostSamples → startAccepted m r ≡ true
+    → length (taken m r xs) ≤ room → answered m xs r room ≡ Done (length (taken m r xs)) (handedOn m r xs)
 unfolding answered delivered
 given-room m xs r room h e f = simp (le-ltb _ _ h, e, le-ltb _ _ f)
 

@@ -55,7 +55,7 @@ module _ (m : Machine) where
       go true t s = kept x s
       go false t s = left x s
 
-pub subsequence-length : {xs ys : List ℕ} → Subsequence xs ys → length xs ≤ length ys
+subsequence-length : {xs ys : List ℕ} → Subsequence xs ys → length xs ≤ length ys
 subsequence-length done = omega arith
 subsequence-length (kept x s) = let ih = subsequence-length s in omega arith
 subsequence-length (left x s) = let ih = subsequence-length s in omega arith

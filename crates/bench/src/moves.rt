@@ -28,14 +28,8 @@ fn after_hit(word: u32, state: u32, count: u32) -> Moved
             ended: false,
         };
     }
-    if lines::line_value(word, 31) == 1 {
-        return Moved {
-            state: state,
-            count: 0,
-            ended: true,
-        };
-    }
-    if state == 15 {
+    let last = lines::line_value(word, 31) == 1;
+    if last | (state == 15) {
         return Moved {
             state: state,
             count: 0,

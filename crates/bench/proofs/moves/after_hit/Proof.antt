@@ -1,5 +1,5 @@
 -- `after_hit` meets its contract: one return for each end of a hit. Assumes nothing.
-use borrow.Author.Tests.{lt-ltb, le-ltb, eq-eqb, ne-eqb}
+use borrow.Author.Tests.{lt-ltb, le-ltb}
 use borrow.Author.Needs.{needs}
 use Rattle.bench.specs.Run.{afterHit}
 use Rattle.bench.proofs.moves.after_hit.Statement.{statement}
@@ -11,8 +11,8 @@ add-if1 c = search needs
 number-of-requires : tie.Need-number-of-requires
 number-of-requires c κs = search needs
 
-add-t7 : tie.Need-add-t7
-add-t7 c = search needs
+add-t8 : tie.Need-add-t8
+add-t8 c = search needs
 
 returns : tie.Need-returns
 unfolding afterHit
@@ -25,36 +25,16 @@ returns-2 : tie.Need-returns-2
 unfolding afterHit
 returns-2 c =
     let f = c .before .before in
-    rw (← f .before .number-of .ensures .0, le-ltb _ _ (f .if1 .left), ← c .before .line-value .ensures, eq-eqb _ _ (c .if2 .taken))
+    rw (← f .before .number-of .ensures .0, le-ltb _ _ (f .if1 .left), ← c .before .line-value .ensures, c .if2 .taken)
+
+add-t6 : tie.Need-add-t6
+add-t6 c = search needs
 
 returns-3 : tie.Need-returns-3
 unfolding afterHit
 returns-3 c =
-    let v = c .before .before in
-    let f = v .before in
-    rw (
-      ← f .before .number-of .ensures .0,
-      le-ltb _ _ (f .if1 .left),
-      ← v .line-value .ensures,
-      ne-eqb _ _ (c .before .if2 .left),
-      eq-eqb _ _ (c .if3 .taken),
-    )
-
-add-t5 : tie.Need-add-t5
-add-t5 c = search needs
-
-returns-4 : tie.Need-returns-4
-unfolding afterHit
-returns-4 c =
-    let v = c .before .before in
-    let f = v .before in
-    rw (
-      ← f .before .number-of .ensures .0,
-      le-ltb _ _ (f .if1 .left),
-      ← v .line-value .ensures,
-      ne-eqb _ _ (c .before .if2 .left),
-      ne-eqb _ _ (c .if3 .left),
-    )
+    let f = c .before .before in
+    rw (← f .before .number-of .ensures .0, le-ltb _ _ (f .if1 .left), ← c .before .line-value .ensures, c .if2 .left)
 
 pub after-hit-spec : {M : Type 1} → statement M
 after-hit-spec =
@@ -62,10 +42,9 @@ after-hit-spec =
     (tie.spec
     add-if1
     number-of-requires
-    add-t7
+    add-t8
     returns
     line-value-requires
     returns-2
-    returns-3
-    add-t5
-    returns-4)
+    add-t6
+    returns-3)

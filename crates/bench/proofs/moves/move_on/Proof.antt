@@ -1,11 +1,8 @@
 -- `move_on` meets its contract: by the hit sum, else by the else sum, else it stays. Assumes nothing.
-use mathlib.Core.Path.{_≡_, sym, _∙_}
-use mathlib.Core.Bool.{true, false}
 use native.Mathlib.Omega.{arith}
 use borrow.Author.Needs.{needs}
-use Rattle.programme.specs.Table.{plain}
 use Rattle.bench.specs.Run.{hitSlot, elseSlot, moved}
-use Rattle.bench.proofs.Slots.{slot-matches}
+use Rattle.bench.proofs.Slots.{slot-is}
 use Rattle.bench.proofs.moves.move_on.Statement.{statement}
 use Rattle.bench.proofs.moves.move_on.Tie as tie
 
@@ -24,10 +21,10 @@ after-hit-requires c κs = search needs
 returns : tie.Need-returns
 unfolding moved
 returns c = λ s e.
-    let a = c .before .before .before .before .before .before .args in
-    let hit : plain (a .table .now) .matches (hitSlot (a .state)) s ≡ true =
-    sym (slot-matches (a .table .now) (hitSlot (a .state)) _ _ s _ (c .before .before .sum-at .ensures) (omega arith) e) ∙ c .before .if1 .taken in
-    rw (hit, ← c .before .before .before .before .word-of .ensures) (c .after-hit .ensures)
+    let h = c .before .before in
+    let a = h .before .before .before .before .args in
+    let hit = slot-is (a .table .now) (hitSlot (a .state)) _ _ s _ _ (h .sum-at .ensures) (omega arith) e (c .before .if1 .taken) in
+    rw (hit, ← h .before .before .word-of .ensures) (c .after-hit .ensures)
 
 add-sum-at : tie.Need-add-sum-at
 add-sum-at c = search needs
@@ -40,10 +37,8 @@ unfolding moved
 returns-2 c = λ s e.
     let h = c .before .before .before in
     let a = h .before .before .before .before .args in
-    let miss : plain (a .table .now) .matches (hitSlot (a .state)) s ≡ false =
-    sym (slot-matches (a .table .now) (hitSlot (a .state)) _ _ s _ (h .sum-at .ensures) (omega arith) e) ∙ c .before .before .if1 .left in
-    let other : plain (a .table .now) .matches (elseSlot (a .state)) s ≡ true =
-    sym (slot-matches (a .table .now) (elseSlot (a .state)) _ _ s _ (c .before .sum-at2 .ensures) (omega arith) e) ∙ c .if2 .taken in
+    let miss = slot-is (a .table .now) (hitSlot (a .state)) _ _ s _ _ (h .sum-at .ensures) (omega arith) e (c .before .before .if1 .left) in
+    let other = slot-is (a .table .now) (elseSlot (a .state)) _ _ s _ _ (c .before .sum-at2 .ensures) (omega arith) e (c .if2 .taken) in
     rw (miss, other, ← h .before .before .word-of .ensures)
 
 returns-3 : tie.Need-returns-3
@@ -51,10 +46,8 @@ unfolding moved
 returns-3 c = λ s e.
     let h = c .before .before .before in
     let a = h .before .before .before .before .args in
-    let miss : plain (a .table .now) .matches (hitSlot (a .state)) s ≡ false =
-    sym (slot-matches (a .table .now) (hitSlot (a .state)) _ _ s _ (h .sum-at .ensures) (omega arith) e) ∙ c .before .before .if1 .left in
-    let other : plain (a .table .now) .matches (elseSlot (a .state)) s ≡ false =
-    sym (slot-matches (a .table .now) (elseSlot (a .state)) _ _ s _ (c .before .sum-at2 .ensures) (omega arith) e) ∙ c .if2 .left in
+    let miss = slot-is (a .table .now) (hitSlot (a .state)) _ _ s _ _ (h .sum-at .ensures) (omega arith) e (c .before .before .if1 .left) in
+    let other = slot-is (a .table .now) (elseSlot (a .state)) _ _ s _ _ (c .before .sum-at2 .ensures) (omega arith) e (c .if2 .left) in
     rw (miss, other)
 
 pub move-on-spec : {M : Type 1} → statement M
