@@ -32,23 +32,31 @@ add-sum-at c = search needs
 sum-at-requires-2 : tie.Need-sum-at-requires-2
 sum-at-requires-2 c κs = search needs
 
+going-requires : tie.Need-going-requires
+going-requires c κs = search needs
+
 returns-2 : tie.Need-returns-2
 unfolding moved
 returns-2 c = λ s e.
-    let h = c .before .before .before in
+    let o = c .before .before in
+    let h = o .before .before in
     let a = h .before .before .before .before .args in
-    let miss = slot-is (a .table .now) (hitSlot (a .state)) _ _ s _ _ (h .sum-at .ensures) (omega arith) e (c .before .before .if1 .left) in
-    let other = slot-is (a .table .now) (elseSlot (a .state)) _ _ s _ _ (c .before .sum-at2 .ensures) (omega arith) e (c .if2 .taken) in
-    rw (miss, other, ← h .before .before .word-of .ensures)
+    let miss = slot-is (a .table .now) (hitSlot (a .state)) _ _ s _ _ (h .sum-at .ensures) (omega arith) e (o .before .if1 .left) in
+    let other = slot-is (a .table .now) (elseSlot (a .state)) _ _ s _ _ (o .sum-at2 .ensures) (omega arith) e (c .before .if2 .taken) in
+    rw (miss, other, ← h .before .before .word-of .ensures) (c .going .ensures)
+
+going-requires-2 : tie.Need-going-requires-2
+going-requires-2 c κs = search needs
 
 returns-3 : tie.Need-returns-3
 unfolding moved
 returns-3 c = λ s e.
-    let h = c .before .before .before in
+    let o = c .before .before in
+    let h = o .before .before in
     let a = h .before .before .before .before .args in
-    let miss = slot-is (a .table .now) (hitSlot (a .state)) _ _ s _ _ (h .sum-at .ensures) (omega arith) e (c .before .before .if1 .left) in
-    let other = slot-is (a .table .now) (elseSlot (a .state)) _ _ s _ _ (c .before .sum-at2 .ensures) (omega arith) e (c .if2 .left) in
-    rw (miss, other)
+    let miss = slot-is (a .table .now) (hitSlot (a .state)) _ _ s _ _ (h .sum-at .ensures) (omega arith) e (o .before .if1 .left) in
+    let other = slot-is (a .table .now) (elseSlot (a .state)) _ _ s _ _ (o .sum-at2 .ensures) (omega arith) e (c .before .if2 .left) in
+    rw (miss, other) (c .going2 .ensures)
 
 pub move-on-spec : {M : Type 1} → statement M
 move-on-spec =
@@ -61,5 +69,7 @@ move-on-spec =
     returns
     add-sum-at
     sum-at-requires-2
+    going-requires
     returns-2
+    going-requires-2
     returns-3)
