@@ -1,20 +1,20 @@
 -- Two machines that answer alike run alike from every accepted start. Assumes nothing.
-use Prim.Native.Nat.{ℕ, suc, _+_, _*_, _^_, _≤_, _<_}
+use Prim.Native.Nat.{ℕ, _+_, _*_, _<_}
 use mathlib.Core.Path.{_≡_, refl, sym, ap, ap₂, _∙_}
 use mathlib.Core.Bool.{Bool, true, false, cond, not, _&&_}
 use mathlib.Core.List.{List, [], _∷_}
 use native.Mathlib.Decide.{decLt}
 use native.Mathlib.Omega.{arith}
-use borrow.Author.Tests.{lt-ltb, le-ltb}
+use borrow.Author.Tests.{le-ltb}
 use lib.Dec.{ltb}
-use lib.ListN.{length, getD}
+use lib.ListN.{length}
+use Rattle.programme.specs.Machine.{Machine, Agree}
 use Rattle.bench.specs.declared.Moved.{Moved}
 use Rattle.bench.specs.declared.Run.{Run}
 use Rattle.bench.specs.declared.Benched.{Benched}
-use Rattle.bench.specs.declared.Benched.the-variants.{Done, Refused}
-use Rattle.programme.specs.Machine.{Machine, Agree}
-use Rattle.bench.specs.Run.{numberOf, earlierOf, captureSlot, hitSlot, elseSlot, moved, standing, sourcesOn, step, takes, next, captures, handedOn, taken, startAccepted}
-use Rattle.bench.specs.Call.{delivered, answered}
+use Rattle.bench.specs.Run.{numberOf, earlierOf, captureSlot, moved, standing, sourcesOn, step, takes, next, captures, handedOn, taken, startAccepted}
+use Rattle.bench.specs.Call.{mostSamples, delivered, answered}
+use Rattle.bench.proofs.Calling.{inTurn, inRoom}
 use Rattle.bench.proofs.Standing.{Stands, next-stands, accepted-stands}
 
 module _ (m k : Machine) (agree : Agree m k) where
@@ -43,7 +43,7 @@ module _ (m k : Machine) (agree : Agree m k) where
   captures-alike : (r : Run) (x : ℕ) → r .state < 16 → captures m r x ≡ captures k r x
   captures-alike r x hs = ap (λ (b : Bool). not (r .ended) && b) (takes-alike r x hs)
 
-  pub handed-alike : (r : Run) (xs : List ℕ) → Stands m (r .state) (r .count) → handedOn m r xs ≡ handedOn k r xs
+  handed-alike : (r : Run) (xs : List ℕ) → Stands m (r .state) (r .count) → handedOn m r xs ≡ handedOn k r xs
   unfolding handedOn
   handed-alike r [] s = refl
   handed-alike r (x ∷ xs) s =
@@ -58,27 +58,29 @@ module _ (m k : Machine) (agree : Agree m k) where
       taken-alike (next m r x) xs (next-stands m r x s) ∙ ap (λ (q : Run). taken k q xs) (next-alike r x (s .0)) in
       ap₂ (λ (b : Bool) (t : List ℕ). cond b (x ∷ t) t) (captures-alike r x (s .0)) rest
 
-  pub start-alike : (r : Run) → startAccepted m r ≡ startAccepted k r
+  start-alike : (r : Run) → startAccepted m r ≡ startAccepted k r
   unfolding startAccepted
   start-alike r = go (decLt (r .state) 16)
     where
-      go : Dec (r .state < 16) → ltb (r .state) 16 && ltb (r .count) (numberOf (m .word (r .state))) ≡ ltb (r .state) 16 && ltb (r .count) (numberOf (k .word (r .state)))
+      go : Dec (r .state < 16) → ltb (r .state) 16 && ltb (r .count) (numberOf (m .word (r .state)))
+          ≡ ltb (r .state) 16 && ltb (r .count) (numberOf (k .word (r .state)))
       go (yes h) = ap (λ (w : ℕ). ltb (r .state) 16 && ltb (r .count) (numberOf w)) (agree .on-words (r .state) h)
       go (no n) = let e = le-ltb (r .state) 16 (omega arith) in simp e
 
-  -- the call answers alike, and leaves the lent words alike
+  -- the call answers alike
   pub answers-alike : (xs : List ℕ) (r : Run) (room : ℕ) → answered m xs r room ≡ answered k xs r room
   unfolding answered delivered
   answers-alike xs r room = go (startAccepted m r) refl
     where
       answer : Bool → List ℕ → Run → Benched
-      answer ok t q =
-          cond (ltb 4096 (length xs)) (Refused 20 4096)
-          (cond (not ok) (Refused 24 0) (cond (ltb room (length t)) (Refused 12 (length t)) (Done (length t) q)))
+      answer ok t q = inTurn (ltb mostSamples (length xs)) ok (inRoom (ltb room (length t)) t q)
 
-      go : (b : Bool) → startAccepted m r ≡ b → answer (startAccepted m r) (taken m r xs) (handedOn m r xs) ≡ answer (startAccepted k r) (taken k r xs) (handedOn k r xs)
+      go : (b : Bool) → startAccepted m r ≡ b
+          → answer (startAccepted m r) (taken m r xs) (handedOn m r xs) ≡ answer (startAccepted k r) (taken k r xs) (handedOn k r xs)
       go true e =
           let s = accepted-stands m r e in
           ap₂ (answer (startAccepted m r)) (taken-alike r xs s) (handed-alike r xs s)
           ∙ ap (λ (b : Bool). answer b (taken k r xs) (handedOn k r xs)) (start-alike r)
-      go false e = ap (λ (b : Bool). answer b (taken m r xs) (handedOn m r xs)) e ∙ ap (λ (b : Bool). answer b (taken k r xs) (handedOn k r xs)) (sym e ∙ start-alike r)
+      go false e =
+          ap (λ (b : Bool). answer b (taken m r xs) (handedOn m r xs)) e
+          ∙ ap (λ (b : Bool). answer b (taken k r xs) (handedOn k r xs)) (sym e ∙ start-alike r)

@@ -1,59 +1,61 @@
 -- The call's answers, refusal by refusal, and what it leaves in the lent words. Holds of any machine. Assumes nothing.
-use Prim.Native.Nat.{ℕ, _+_, _≤_, _<_}
-use mathlib.Core.Path.{_≡_, refl, sym, ap, ap₂, _∙_}
+use Prim.Native.Nat.{ℕ, _-_, _≤_, _<_}
+use mathlib.Core.Path.{_≡_, refl, sym, ap, ap₂, _∙_, subst}
 use mathlib.Core.Bool.{Bool, true, false, cond, not, _&&_, true≢false}
-use mathlib.Core.List.{List, [], _∷_, _++_}
-use native.Mathlib.Nat.{zero-add}
+use mathlib.Core.List.{List, [], _∷_}
 use native.Mathlib.Omega.{arith}
 use borrow.Author.Tests.{lt-ltb, le-ltb}
 use lib.Dec.{ltb}
 use lib.ListN.{length, getD, take, drop}
-use lib.Seq.{sets}
-use Rattle.buffer.specs.Room.{fill}
-use Rattle.buffer.proofs.Writing.{stored}
+use lib.Seq.{take-append-seam}
+use Rattle.buffer.specs.Room.{bytes, fill, Delivered}
+use Rattle.buffer.specs.declared.Outcome.{Outcome}
+use Rattle.buffer.proofs.Writing.{stored, filled}
+use Rattle.programme.specs.Machine.{Machine}
 use Rattle.bench.specs.declared.Run.{Run}
 use Rattle.bench.specs.declared.Walked.{Walked}
 use Rattle.bench.specs.declared.Benched.{Benched}
 use Rattle.bench.specs.declared.Benched.the-variants.{Done, Refused}
-use Rattle.programme.specs.Machine.{Machine}
 use Rattle.bench.specs.Run.{earlierOf, step, takes, next, captures, handedOn, taken, startAccepted}
 use Rattle.bench.specs.Call.{mostSamples, delivered, answered, leftBy}
-use Rattle.bench.specs.Walk.{runFrom, ranTo, Walks, NeededIn, Delivers, Answers}
+use Rattle.bench.specs.Walk.{runFrom, ranTo, Walks, Delivers, Answers}
 use Rattle.bench.proofs.Pieces.{ended-hands-on, ended-takes-nothing, taken-length}
 
-module _ (m : Machine) (xs : List ℕ) (r : Run) (room : ℕ) where
-  pub needed-none : length xs ≤ room → NeededIn room (length (taken m r xs)) 0
-  needed-none h = let t = taken-length m r xs in record { fits = λ f. omega arith; exact = λ f. absurd (omega arith) }
+-- the refusals of the samples and of the run, in their order, before what is delivered
+abbrev pub inTurn : (many starts : Bool) → Benched → Benched
+inTurn many starts b = cond many (Refused 20 mostSamples) (cond (not starts) (Refused 24 0) b)
 
-  pub needed-all : (n : ℕ) → n ≡ length (taken m r xs) → NeededIn room (length (taken m r xs)) n
-  needed-all n e = record { fits = λ f. rw (← e) f; exact = λ f. e }
+-- the refusal of the room
+abbrev pub inRoom : (short : Bool) (words : List ℕ) → Run → Benched
+inRoom short words r = cond short (Refused 12 (length words)) (Done (length words) r)
 
 -- where nothing is taken any room will do
-none-delivered : (m : Machine) (xs : List ℕ) (r : Run) (room : ℕ) → taken m r xs ≡ [] → handedOn m r xs ≡ r → delivered m xs r room ≡ Done 0 r
+none-delivered : (m : Machine) (xs : List ℕ) (r : Run) (room : ℕ) → taken m r xs ≡ [] → handedOn m r xs ≡ r
+    → delivered m xs r room ≡ Done 0 r
 unfolding delivered
 none-delivered m xs r room et eh =
-    ap₂ (λ (l : List ℕ) (q : Run). cond (ltb room (length l)) (Refused 12 (length l)) (Done (length l) q)) et eh
-    ∙ ap (λ (b : Bool). cond b (Refused 12 0) (Done 0 r)) (le-ltb room 0 (omega arith))
+    ap₂ (λ (l : List ℕ) (q : Run). inRoom (ltb room (length l)) l q) et eh
+    ∙ ap (λ (b : Bool). inRoom b [] r) (le-ltb room 0 (omega arith))
 
 pub ended-delivered : (m : Machine) (xs : List ℕ) (r : Run) (room : ℕ) → r .ended ≡ true → delivered m xs r room ≡ Done 0 r
 ended-delivered m xs r room e = none-delivered m xs r room (ended-takes-nothing m r xs e) (ended-hands-on m r xs e)
 
 module _ (m : Machine) (xs : List ℕ) (r : Run) (out : List ℕ) where
-  pub too-short : (n : ℕ) → NeededIn (length out) (length (taken m r xs)) n → length out < n → Delivers m xs r out (Refused 12 n) out
+  pub too-short : (n : ℕ) → n ≡ length (taken m r xs) → length out < n → Delivers m xs r out (Refused 12 n) out
   unfolding delivered
-  too-short n w h =
-      let e = w .exact h in
+  too-short n e h =
       let l : length out < length (taken m r xs) = rw (← e) h in
       record { answer = simp (lt-ltb (length out) (length (taken m r xs)) l, e); left = refl }
 
-  pub delivers : (n t : ℕ) (r′ : Run) (out′ : List ℕ) → NeededIn (length out) (length (taken m r xs)) n → n ≤ length out
-      → t ≡ length (taken m r xs) → r′ ≡ handedOn m r xs → out′ ≡ sets out 0 (taken m r xs) → Delivers m xs r out (Done t r′) out′
+  pub delivers : (b : Benched) (t : ℕ) (r′ : Run) (out′ : List ℕ) → length (taken m r xs) ≤ length out → b ≡ Done t r′
+      → t ≡ length (taken m r xs) → r′ ≡ handedOn m r xs → out′ ≡ fill (taken m r xs) out → Delivers m xs r out b out′
   unfolding delivered
-  delivers n t r′ out′ w h et er eo =
-      let l = w .fits h in
+  delivers b t r′ out′ l eb et er eo =
       record {
-        answer = ap₂ Done et er ∙ sym (ap (λ (b : Bool). cond b (Refused 12 (length (taken m r xs))) (Done (length (taken m r xs)) (handedOn m r xs))) (le-ltb (length out) (length (taken m r xs)) l));
-        left = eo ∙ stored (taken m r xs) out l;
+        answer =
+            eb ∙ ap₂ Done et er
+            ∙ sym (ap (λ (c : Bool). inRoom c (taken m r xs) (handedOn m r xs)) (le-ltb (length out) (length (taken m r xs)) l));
+        left = eo ∙ ap (λ (c : Benched). leftBy c (taken m r xs) out) (sym eb);
       }
 
   pub refused-20 : mostSamples < length xs → Answers m xs r out (Refused 20 mostSamples) out
@@ -64,7 +66,8 @@ module _ (m : Machine) (xs : List ℕ) (r : Run) (out : List ℕ) where
   unfolding answered
   refused-24 h e = record { answer = simp (le-ltb _ _ h, e); left = refl }
 
-  pub looked : length xs ≤ mostSamples → startAccepted m r ≡ true → (b : Benched) (out′ : List ℕ) → Delivers m xs r out b out′ → Answers m xs r out b out′
+  pub looked : length xs ≤ mostSamples → startAccepted m r ≡ true → (b : Benched) (out′ : List ℕ) → Delivers m xs r out b out′
+      → Answers m xs r out b out′
   unfolding answered
   looked h e b out′ d = record { answer = d .answer ∙ simp (le-ltb _ _ h, e); left = d .left }
 
@@ -72,6 +75,35 @@ module _ (m : Machine) (xs : List ℕ) (r : Run) (out : List ℕ) where
   pub nothing-taken : taken m r xs ≡ [] → handedOn m r xs ≡ r → Delivers m xs r out (Done 0 r) out
   nothing-taken et eh =
       record { answer = sym (none-delivered m xs r (length out) et eh); left = ap (λ (l : List ℕ). fill l out) (sym et) }
+
+-- the walk over all samples of a run that looks at one
+module _ (m : Machine) (xs : List ℕ) (state count earlier : ℕ) (room : List ℕ) (w : Walked) (room′ : List ℕ)
+    (walks : Walks m xs state count earlier room w room′) where
+  pub walk-few : w .taken ≤ length xs
+  walk-few = rw (walks .counted) (taken-length m (runFrom state count earlier) xs)
+
+  -- right into the lent words
+  pub walked-into : (b : Benched) → length xs ≤ length room → b ≡ Done (w .taken) (ranTo w)
+      → Delivers m xs (runFrom state count earlier) room b room′
+  walked-into b h e =
+      let r = runFrom state count earlier in
+      let t = taken-length m r xs in
+      delivers m xs r room b (w .taken) (ranTo w) room′ (omega arith) e (walks .counted) (walks .handed)
+      (walks .left ∙ stored (taken m r xs) room (omega arith))
+
+  -- into other room, of which what was taken is copied: `&room[0..taken]`
+  pub walked-apart : (out out′ : List ℕ) (o : Outcome) (b : Benched) → length xs ≤ length room → w .taken ≤ length out
+      → Delivered (bytes (take (w .taken - 0) room′)) out o out′ → b ≡ Done (w .taken) (ranTo w)
+      → Delivers m xs (runFrom state count earlier) out b out′
+  walked-apart out out′ o b h f d e =
+      let r = runFrom state count earlier in
+      let t = taken-length m r xs in
+      let n = walks .counted in
+      let all : w .taken - 0 ≡ length (taken m r xs) = omega arith in
+      let src : take (w .taken - 0) room′ ≡ taken m r xs =
+      ap₂ take all (walks .left ∙ stored (taken m r xs) room (omega arith)) ∙ take-append-seam (taken m r xs) (drop (length (taken m r xs)) room) in
+      delivers m xs r out b (w .taken) (ranTo w) out′ (omega arith) e n (walks .handed)
+      (filled (taken m r xs) out o out′ (omega arith) (subst (λ (l : List ℕ). Delivered (bytes l) out o out′) src d))
 
 -- no samples
 module _ (m : Machine) where
@@ -117,16 +149,18 @@ unfolding first delivered
 from-first m [] r out earlier b out′ e n ee d = absurd (n refl)
 from-first m (x ∷ xs) r out earlier b out′ e n ee d =
     let f = runFrom (r .state) (r .count) in
-    let t : taken m (f earlier) (x ∷ xs) ≡ taken m r (x ∷ xs) = ap (λ (w : ℕ). taken m (f w) (x ∷ xs)) ee ∙ sym (taken-first m r x e xs) in
-    let h : handedOn m (f earlier) (x ∷ xs) ≡ handedOn m r (x ∷ xs) = ap (λ (w : ℕ). handedOn m (f w) (x ∷ xs)) ee ∙ sym (handed-first m r x e xs) in
+    let t : taken m (f earlier) (x ∷ xs) ≡ taken m r (x ∷ xs) =
+    ap (λ (w : ℕ). taken m (f w) (x ∷ xs)) ee ∙ sym (taken-first m r x e xs) in
+    let h : handedOn m (f earlier) (x ∷ xs) ≡ handedOn m r (x ∷ xs) =
+    ap (λ (w : ℕ). handedOn m (f w) (x ∷ xs)) ee ∙ sym (handed-first m r x e xs) in
     record {
-      answer = d .answer ∙ ap₂ (λ (l : List ℕ) (q : Run). cond (ltb (length out) (length l)) (Refused 12 (length l)) (Done (length l) q)) t h;
+      answer = d .answer ∙ ap₂ (λ (l : List ℕ) (q : Run). inRoom (ltb (length out) (length l)) l q) t h;
       left = d .left ∙ ap (λ (l : List ℕ). leftBy b l out) t;
     }
 
 -- given room, the call is done
-pub given-room : (m : Machine) (xs : List ℕ) (r : Run) (room : ℕ) → length xs ≤ mostSamples → startAccepted m r ≡ true → length (taken m r xs) ≤ room
-    → answered m xs r room ≡ Done (length (taken m r xs)) (handedOn m r xs)
+pub given-room : (m : Machine) (xs : List ℕ) (r : Run) (room : ℕ) → length xs ≤ mostSamples → startAccepted m r ≡ true
+    → length (taken m r xs) ≤ room → answered m xs r room ≡ Done (length (taken m r xs)) (handedOn m r xs)
 unfolding answered delivered
 given-room m xs r room h e f = simp (le-ltb _ _ h, e, le-ltb _ _ f)
 

@@ -1,5 +1,5 @@
 -- The sources of a sample as they are found, from the highest down. Assumes nothing.
-use Prim.Native.Nat.{ℕ, zero, suc, _+_, _-_, _*_, _^_, _≤_, _<_}
+use Prim.Native.Nat.{ℕ, zero, suc, _+_, _-_, _*_, _≤_, _<_}
 use mathlib.Core.Path.{_≡_, refl, sym, ap, ap₂, _∙_}
 use mathlib.Core.Bool.{Bool, true, false, cond}
 use mathlib.Core.List.{List}
@@ -11,7 +11,7 @@ use lib.Pow.{pow-mono}
 use Rattle.lines.specs.Line.{fromLines}
 use Rattle.lines.proofs.Digit.{lines-equal, lines-next, from-lines-lt}
 use Rattle.lut.specs.Table.{oneIf}
-use Rattle.programme.specs.Machine.{Machine, sourcesBy}
+use Rattle.programme.specs.Machine.{sourcesBy}
 use Rattle.programme.specs.Table.{termAt, rangeAt, edgeAt, plain}
 use Rattle.bench.specs.Asking.{sourceAt, sourcesFrom}
 

@@ -40,7 +40,7 @@ pub run-read : (ws : List ℕ) (e : Earlier) → length ws ≡ 5 → FlagsFit ws
 unfolding runOf isRun
 run-read ws e l f q = rw (eq-eqb _ _ l, f, q)
 
-pub run-count : (ws : List ℕ) → isRun ws ≡ true → length ws ≡ 5
+run-count : (ws : List ℕ) → isRun ws ≡ true → length ws ≡ 5
 unfolding isRun
 run-count ws e = eqb-true _ _ (both-true (eqb (length ws) 5) (FlagsFit ws) e .0)
 

@@ -1,12 +1,12 @@
 -- A run cut in two, a run that has ended, and what is taken. Each holds of any machine. Assumes nothing.
-use Prim.Native.Nat.{ℕ, suc, _≤_}
+use Prim.Native.Nat.{ℕ, _≤_}
 use mathlib.Core.Path.{_≡_, refl, sym, ap, _∙_}
 use mathlib.Core.Bool.{Bool, true, false, cond, not, _&&_, true≢false}
 use mathlib.Core.List.{List, [], _∷_, _++_}
 use native.Mathlib.Omega.{arith}
 use lib.ListN.{length}
-use Rattle.bench.specs.declared.Run.{Run}
 use Rattle.programme.specs.Machine.{Machine}
+use Rattle.bench.specs.declared.Run.{Run}
 use Rattle.bench.specs.Run.{takes, step, captures, next, handedOn, taken, Subsequence, done, kept, left}
 
 module _ (m : Machine) where
@@ -55,7 +55,7 @@ module _ (m : Machine) where
       go true t s = kept x s
       go false t s = left x s
 
-pub subsequence-length : {xs ys : List ℕ} → Subsequence xs ys → length xs ≤ length ys
+subsequence-length : {xs ys : List ℕ} → Subsequence xs ys → length xs ≤ length ys
 subsequence-length done = omega arith
 subsequence-length (kept x s) = let ih = subsequence-length s in omega arith
 subsequence-length (left x s) = let ih = subsequence-length s in omega arith

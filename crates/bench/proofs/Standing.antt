@@ -1,15 +1,15 @@
 -- What is handed on from an accepted start is an accepted start. Holds of any machine. Assumes nothing.
-use Prim.Native.Nat.{ℕ, suc, _+_, _*_, _/_, _%_, _≤_, _<_}
-use mathlib.Core.Path.{_≡_, refl, sym, _∙_}
-use mathlib.Core.Bool.{Bool, true, false, cond, _||_, _&&_}
+use Prim.Native.Nat.{ℕ, _+_, _%_, _≤_, _<_}
+use mathlib.Core.Path.{_≡_, refl}
+use mathlib.Core.Bool.{Bool, true, false, cond, _||_}
 use mathlib.Core.List.{List, [], _∷_}
 use native.Mathlib.Omega.{arith}
-use borrow.Author.Tests.{ltb-true, eqb-false, eqb-true, lt-ltb}
+use borrow.Author.Tests.{ltb-true, eqb-false, lt-ltb}
 use lib.Dec.{eqb, ltb}
 use Rattle.lines.proofs.Truth.{both-true}
+use Rattle.programme.specs.Machine.{Machine}
 use Rattle.bench.specs.declared.Moved.{Moved}
 use Rattle.bench.specs.declared.Run.{Run}
-use Rattle.programme.specs.Machine.{Machine}
 use Rattle.bench.specs.Run.{numberOf, elseOf, isLast, hitSlot, elseSlot, afterHit, moved, sourcesOn, step, next, handedOn, startAccepted}
 
 -- a number is at least 1 and has 20 bits

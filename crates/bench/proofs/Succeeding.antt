@@ -1,7 +1,7 @@
 -- When the call on a sheet succeeds, and what it then answers and leaves. Assumes nothing.
 use Prim.Native.Nat.{ℕ, _≤_}
 use mathlib.Core.Path.{_≡_, refl, sym, ap, _∙_}
-use mathlib.Core.Bool.{Bool, true, false, cond, not}
+use mathlib.Core.Bool.{Bool, true, false}
 use mathlib.Core.List.{List}
 use native.Mathlib.Omega.{arith}
 use borrow.Author.Tests.{ltb-false}
@@ -18,7 +18,7 @@ use Rattle.bench.specs.declared.Benched.{Benched}
 use Rattle.bench.specs.declared.Benched.the-variants.{Done, Refused}
 use Rattle.bench.specs.Run.{handedOn, taken, startAccepted}
 use Rattle.bench.specs.Call.{mostSamples, delivered, answered, unless, machineOf, benched, leftBy, benchedLeft}
-use Rattle.bench.proofs.Calling.{given-room}
+use Rattle.bench.proofs.Calling.{inTurn, inRoom, given-room}
 
 -- a success is no refusal
 done-refused : {A : Type 0} {n number place : ℕ} {r : Run} → Refused number place ≡ Done n r → A
@@ -38,8 +38,7 @@ did m xs r room n r′ e =
     go (ltb mostSamples (length xs)) (startAccepted m r) (ltb room (length (taken m r xs))) refl refl refl e
   where
     go : (a b c : Bool) → ltb mostSamples (length xs) ≡ a → startAccepted m r ≡ b → ltb room (length (taken m r xs)) ≡ c
-        → cond a (Refused 20 mostSamples) (cond (not b) (Refused 24 0) (cond c (Refused 12 (length (taken m r xs))) (Done (length (taken m r xs)) (handedOn m r xs)))) ≡ Done n r′
-        → Did m xs r room n r′
+        → inTurn a b (inRoom c (taken m r xs) (handedOn m r xs)) ≡ Done n r′ → Did m xs r room n r′
     go true b c ea eb ec f = done-refused f
     go false false c ea eb ec f = done-refused f
     go false true true ea eb ec f = done-refused f
@@ -64,8 +63,8 @@ module _ (s xs : List ℕ) (r : Run) (room n : ℕ) (r′ : Run) (e : benched s 
   bench-did = did (machineOf s) xs r room n r′ (sym (accepts s (answered (machineOf s) xs r room) sheet-accepted) ∙ e)
 
 -- where nothing is to be refused the call is done
-pub does : (s xs : List ℕ) (r : Run) (room : ℕ) → verdict s ≡ Verdict.Accepted → length xs ≤ mostSamples → startAccepted (machineOf s) r ≡ true
-    → length (taken (machineOf s) r xs) ≤ room
+pub does : (s xs : List ℕ) (r : Run) (room : ℕ) → verdict s ≡ Verdict.Accepted → length xs ≤ mostSamples
+    → startAccepted (machineOf s) r ≡ true → length (taken (machineOf s) r xs) ≤ room
     → benched s xs r room ≡ Done (length (taken (machineOf s) r xs)) (handedOn (machineOf s) r xs)
 unfolding benched
 does s xs r room a few ok fits = accepts s (answered (machineOf s) xs r room) a ∙ given-room (machineOf s) xs r room few ok fits

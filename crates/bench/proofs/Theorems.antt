@@ -1,8 +1,8 @@
 -- What is promised of the bench, of what the call answers and of the words that it leaves. Assumes nothing.
 use Prim.Native.Nat.{ℕ, _+_, _-_, _≤_}
 use mathlib.Core.Path.{_≡_, refl, sym, ap, ap₂, _∙_}
-use mathlib.Core.Bool.{Bool, true, false, cond, not}
-use mathlib.Core.List.{List, [], _∷_, _++_}
+use mathlib.Core.Bool.{Bool, true, false}
+use mathlib.Core.List.{List, _++_}
 use native.Mathlib.Omega.{arith}
 use borrow.Author.Tests.{le-ltb}
 use lib.Dec.{ltb}
@@ -12,15 +12,14 @@ use Rattle.sheet.specs.Reading.{verdict}
 use Rattle.bench.specs.declared.Earlier.{Earlier}
 use Rattle.bench.specs.declared.Earlier.the-variants.{Nothing, Word}
 use Rattle.bench.specs.declared.Run.{Run}
-use Rattle.bench.specs.declared.Benched.{Benched}
 use Rattle.bench.specs.declared.Benched.the-variants.{Done, Refused}
 use Rattle.bench.specs.Run.{handedOn, taken, startAccepted, Subsequence}
-use Rattle.bench.specs.Call.{mostSamples, delivered, answered, unless, machineOf, benched, benchedLeft}
-use Rattle.bench.specs.Handed.{isRun, noRun, runOf, flagOf, wordsOf}
+use Rattle.bench.specs.Call.{mostSamples, delivered, answered, machineOf, benched, benchedLeft}
+use Rattle.bench.specs.Handed.{isRun, runOf, wordsOf}
 use Rattle.bench.proofs.Pieces.{handed-pieces, taken-pieces, ended-hands-on, ended-takes-nothing, taken-subsequence}
-use Rattle.bench.proofs.Calling.{ended-delivered}
+use Rattle.bench.proofs.Calling.{inTurn, inRoom, ended-delivered}
 use Rattle.bench.proofs.Standing.{handed-accepted}
-use Rattle.bench.proofs.Succeeding.{Did, accepts, sheet-accepted, bench-did, does, writes}
+use Rattle.bench.proofs.Succeeding.{accepts, sheet-accepted, bench-did, does, writes}
 
 -- ---- two pieces
 
@@ -54,7 +53,8 @@ two-pieces s xs ys r out n final e out₁ h =
     let most = d .few in
     let all : n ≡ length (taken m r xs) + length (taken m (handedOn m r xs) ys) = d .count ∙ both-taken s xs ys r in
     let one = does s xs r (length out₁) a (omega arith) (d .start) (omega arith) in
-    let two : (out₂ : List ℕ) → n ≤ length (taken m r xs) + length out₂ → benched s ys (handedOn m r xs) (length out₂) ≡ Done (n - length (taken m r xs)) final =
+    let two : (out₂ : List ℕ) → n ≤ length (taken m r xs) + length out₂
+    → benched s ys (handedOn m r xs) (length out₂) ≡ Done (n - length (taken m r xs)) final =
     λ out₂ f.
     let j : length (taken m (handedOn m r xs) ys) ≡ n - length (taken m r xs) = omega arith in
     does s ys (handedOn m r xs) (length out₂) a (omega arith) (handed-accepted m r xs (d .start)) (omega arith)
@@ -106,16 +106,17 @@ handed-on-accepted s xs r room n r′ e ys room′ place f =
     let d = bench-did s xs r room n r′ e in
     let ok : startAccepted m r′ ≡ true = ap (startAccepted m) (d .run) ∙ handed-accepted m r xs (d .start) in
     let a = accepts s (answered m ys r′ room′) (sheet-accepted s xs r room n r′ e) in
-    never (ltb mostSamples (length ys)) (ltb room′ (length (taken m r′ ys))) (length (taken m r′ ys)) (handedOn m r′ ys)
-    (sym (a ∙ ap (λ (b : Bool). cond (ltb mostSamples (length ys)) (Refused 20 mostSamples) (cond (not b) (Refused 24 0) (delivered m ys r′ room′))) ok) ∙ f)
+    never (ltb mostSamples (length ys)) (ltb room′ (length (taken m r′ ys))) (taken m r′ ys) (handedOn m r′ ys)
+    (sym (a ∙ ap (λ (b : Bool). inTurn (ltb mostSamples (length ys)) b (delivered m ys r′ room′)) ok) ∙ f)
   where
-    never : (a c : Bool) (t : ℕ) (q : Run) → cond a (Refused 20 mostSamples) (cond c (Refused 12 t) (Done t q)) ≡ Refused 24 place → ⊥
+    never : (a c : Bool) (t : List ℕ) (q : Run) → inTurn a true (inRoom c t q) ≡ Refused 24 place → ⊥
     never true c t q g = let z : _≡_ {A = ℕ} 20 24 = cc in absurd (omega arith)
     never false true t q g = let z : _≡_ {A = ℕ} 12 24 = cc in absurd (omega arith)
     never false false t q g = let z : _≡_ {A = ℕ} 0 1 = cc in absurd (omega arith)
 
 -- of a run that has ended nothing is taken, and it is handed on as it was [D4.4]
-pub ended-stays : (s xs : List ℕ) (r : Run) (room n : ℕ) (r′ : Run) → benched s xs r room ≡ Done n r′ → r .ended ≡ true → (n ≡ 0) × (r′ ≡ r)
+pub ended-stays : (s xs : List ℕ) (r : Run) (room n : ℕ) (r′ : Run) → benched s xs r room ≡ Done n r′ → r .ended ≡ true
+    → (n ≡ 0) × (r′ ≡ r)
 ended-stays s xs r room n r′ e h =
     let d = bench-did s xs r room n r′ e in (
       d .count ∙ ap length (ended-takes-nothing (machineOf s) r xs h),
@@ -123,15 +124,16 @@ ended-stays s xs r room n r′ e h =
     )
 
 -- such a run is never refused with 12 [D4.4]
-pub ended-never-short : (s xs : List ℕ) (r : Run) → verdict s ≡ Accepted → r .ended ≡ true → (room place : ℕ) → benched s xs r room ≡ Refused 12 place → ⊥
+pub ended-never-short : (s xs : List ℕ) (r : Run) → verdict s ≡ Accepted → r .ended ≡ true → (room place : ℕ)
+    → benched s xs r room ≡ Refused 12 place → ⊥
 unfolding benched answered
 ended-never-short s xs r a h room place f =
     let m = machineOf s in
     never (ltb mostSamples (length xs)) (startAccepted m r)
-    (ap (λ (b : Benched). cond (ltb mostSamples (length xs)) (Refused 20 mostSamples) (cond (not (startAccepted m r)) (Refused 24 0) b)) (sym (ended-delivered m xs r room h))
+    (ap (inTurn (ltb mostSamples (length xs)) (startAccepted m r)) (sym (ended-delivered m xs r room h))
     ∙ sym (accepts s (answered m xs r room) a) ∙ f)
   where
-    never : (b c : Bool) → cond b (Refused 20 mostSamples) (cond (not c) (Refused 24 0) (Done 0 r)) ≡ Refused 12 place → ⊥
+    never : (b c : Bool) → inTurn b c (Done 0 r) ≡ Refused 12 place → ⊥
     never true c g = let z : _≡_ {A = ℕ} 20 12 = cc in absurd (omega arith)
     never false false g = let z : _≡_ {A = ℕ} 24 12 = cc in absurd (omega arith)
     never false true g = let z : _≡_ {A = ℕ} 0 1 = cc in absurd (omega arith)
@@ -150,7 +152,10 @@ pub words-of-a-run : (r : Run) → runOf (wordsOf r) ≡ r
 unfolding runOf isRun
 words-of-a-run r = go (r .earlier) (r .ended)
   where
-    go : (e : Earlier) (b : Bool) → runOf (wordsOf (record { state = r .state; count = r .count; earlier = e; ended = b })) ≡ record { state = r .state; count = r .count; earlier = e; ended = b }
+    with-these : Earlier → Bool → Run
+    with-these e b = record { state = r .state; count = r .count; earlier = e; ended = b }
+
+    go : (e : Earlier) (b : Bool) → runOf (wordsOf (with-these e b)) ≡ with-these e b
     go Nothing true = refl
     go Nothing false = refl
     go (Word w) true = refl

@@ -1,11 +1,8 @@
 -- The call on a sheet, by the table that is made of it. Assumes nothing.
 use Prim.Native.Nat.{ℕ}
 use mathlib.Core.Path.{_≡_, refl, sym, ap, _∙_}
-use mathlib.Core.Bool.{Bool, true, false, cond}
 use mathlib.Core.List.{List}
 use native.Mathlib.Omega.{arith}
-use borrow.Author.Tests.{le-leb}
-use lib.Dec.{leb}
 use lib.ListN.{length}
 use Rattle.buffer.specs.Room.{Delivered, bytes}
 use Rattle.buffer.specs.declared.Outcome.{Outcome}
@@ -16,7 +13,7 @@ use Rattle.buffer.specs.Room as room
 use Rattle.buffer.proofs.Writing as writing
 use Rattle.sheet.specs.Reading.{verdict}
 use Rattle.sheet.specs.Parsed.{parse}
-use Rattle.programme.specs.Machine.{Machine, Agree}
+use Rattle.programme.specs.Machine.{Agree}
 use Rattle.programme.specs.Table.{tableLength, tableOf, prepared, plain}
 use Rattle.programme.proofs.Theorems.{table-length}
 use Rattle.bench.specs.declared.Run.{Run}

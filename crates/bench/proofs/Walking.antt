@@ -1,5 +1,5 @@
 -- The walk over the samples, one at a time: what holds before each, and what is so at its end. Holds of any machine. Assumes nothing.
-use Prim.Native.Nat.{ℕ, suc, _+_, _≤_, _<_}
+use Prim.Native.Nat.{ℕ, _+_, _≤_, _<_}
 use mathlib.Core.Path.{_≡_, refl, sym, ap, ap₂, _∙_, subst}
 use mathlib.Core.Bool.{Bool, true, false, cond}
 use mathlib.Core.List.{List, [], _∷_}
@@ -9,11 +9,11 @@ use native.Mathlib.Omega.{arith}
 use lib.ListN.{length, getD, drop, set, length-set, drop-of-length-le}
 use lib.Seq.{drop-cons, sets}
 use Rattle.lut.specs.Table.{oneIf}
+use Rattle.programme.specs.Machine.{Machine}
 use Rattle.bench.specs.declared.Earlier.the-variants.{Word}
 use Rattle.bench.specs.declared.Moved.{Moved}
 use Rattle.bench.specs.declared.Run.{Run}
 use Rattle.bench.specs.declared.Walked.{Walked}
-use Rattle.programme.specs.Machine.{Machine}
 use Rattle.bench.specs.Run.{captureSlot, moved, standing, step, takes, next, captures, handedOn, taken}
 use Rattle.bench.specs.Walk.{runFrom, ranTo, Walks}
 use Rattle.bench.proofs.Pieces.{ended-hands-on, ended-takes-nothing}

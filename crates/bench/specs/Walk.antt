@@ -36,11 +36,6 @@ pub record Walks (m : Machine) (samples : List ℕ) (state count earlier : ℕ) 
   pub handed : ranTo w ≡ handedOn m (runFrom state count earlier) samples
   pub left : out′ ≡ sets out 0 (taken m (runFrom state count earlier) samples)
 
--- a number that says whether so many words fit, and how many they are where they do not [F12]
-pub record NeededIn (room words r : ℕ) : Type 0 where
-  pub fits : r ≤ room → words ≤ room
-  pub exact : room < r → r ≡ words
-
 -- what is left to answer of a run that may be handed in [R10, F12]
 pub record Delivers (m : Machine) (samples : List ℕ) (run : Run) (out : List ℕ) (r : Benched) (out′ : List ℕ) : Type 0 where
   pub answer : r ≡ delivered m samples run (length out)

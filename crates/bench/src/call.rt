@@ -2,15 +2,17 @@
 ghost use mathlib.Core.Path.{_≡_};
 ghost use lib.ListN.{length};
 ghost use Rattle.programme.specs.Table.{tableLength, plain};
-ghost use Rattle.bench.specs.Run.{fresh, startAccepted, earlierOf, taken};
+ghost use Rattle.bench.specs.declared.Benched.the-variants.{Done};
+ghost use Rattle.bench.specs.Run.{fresh, startAccepted, earlierOf};
 ghost use Rattle.bench.specs.Call.{benched, benchedLeft};
-ghost use Rattle.bench.specs.Walk.{Starts, NeededIn, Delivers, Answers, runFrom};
+ghost use Rattle.bench.specs.Walk.{Starts, Delivers, Answers, runFrom, ranTo};
 use crate::BAD_RUN;
 use crate::Benched;
 use crate::Earlier;
 use crate::MOST_SAMPLES;
 use crate::Run;
 use crate::TOO_MANY_SAMPLES;
+use crate::Walked;
 use crate::moves::number_of;
 use crate::moves::word_of;
 use crate::walk::walk;
@@ -49,28 +51,43 @@ fn earlier_of(earlier: Earlier, sample: u32) -> u32
     }
 }
 
-// How many words the taken samples need, or 0 where there is room for all samples.
-fn words_needed(
+fn done(w: Walked) -> Benched
+    ensures { λ r. ⌜ r ≡ Done (w .taken) (ranTo w) ⌝ }
+{
+    Benched::Done(
+        w.taken,
+        Run {
+            state: w.state,
+            count: w.count,
+            earlier: Earlier::Word(w.earlier),
+            ended: w.ended,
+        },
+    )
+}
+
+// The walk into room of our own, which is judged before a word of it is handed over: a refusal has written nothing.
+fn deliver_judged(
     table: &[u32],
     samples: &[u32],
     state: u32,
     count: u32,
     earlier: u32,
-    room: usize,
-) -> usize
+    out: &mut [u32],
+) -> Benched
     requires { ⌜ Starts (now table) (now samples) state count ⌝ }
-    ensures { λ r. ⌜ NeededIn room (length (taken (plain (now (table .entry))) (runFrom state count earlier) (now (samples .entry)))) r ⌝ }
+    ensures { λ r. ⌜ Delivers (plain (now (table .entry))) (now (samples .entry)) (runFrom state count earlier) (now (out .entry)) r (now (out .exit)) ⌝ }
 {
-    if samples.len() <= room {
-        return 0;
+    let mut room = [0u32; MOST_SAMPLES];
+    let w = walk(table, samples, state, count, earlier, &mut room);
+    let needed = w.taken;
+    if out.len() < needed {
+        return Benched::Refused(buffer::OUTPUT_TOO_SHORT, needed);
     }
-    let mut none = [0u32; 1];
-    let walked = walk(table, samples, state, count, earlier, &mut none);
-    walked.taken
+    buffer::put_words(out, &room[0..needed]);
+    done(w)
 }
 
-// The walk, once for all where there is room for all samples; else what it needs is counted first, so that a refusal
-// has written nothing.
+// The walk, right into the lent words where there is room for all samples.
 fn deliver(
     table: &[u32],
     samples: &[u32],
@@ -82,20 +99,10 @@ fn deliver(
     requires { ⌜ Starts (now table) (now samples) state count ⌝ }
     ensures { λ r. ⌜ Delivers (plain (now (table .entry))) (now (samples .entry)) (runFrom state count earlier) (now (out .entry)) r (now (out .exit)) ⌝ }
 {
-    let needed = words_needed(table, samples, state, count, earlier, out.len());
-    if out.len() < needed {
-        return Benched::Refused(buffer::OUTPUT_TOO_SHORT, needed);
+    if out.len() < samples.len() {
+        return deliver_judged(table, samples, state, count, earlier, out);
     }
-    let w = walk(table, samples, state, count, earlier, out);
-    Benched::Done(
-        w.taken,
-        Run {
-            state: w.state,
-            count: w.count,
-            earlier: Earlier::Word(w.earlier),
-            ended: w.ended,
-        },
-    )
+    done(walk(table, samples, state, count, earlier, out))
 }
 
 // The call over a table.

@@ -112,7 +112,8 @@ pub fn bench_words(sheet: &[u8], samples: &[u32], run: &mut [u32], out: &mut [u3
     ensures { λ _. ⌜ now (run .exit) ≡ handedBy (benched (now (sheet .entry)) (now (samples .entry)) (runOf (now (run .entry))) (length (now (out .entry)))) (now (run .entry)) ⌝ }
     ensures { λ _. ⌜ now (out .exit) ≡ benchedLeft (now (sheet .entry)) (now (samples .entry)) (runOf (now (run .entry))) (now (out .entry)) ⌝ }
 {
-    match bench(sheet, samples, run_of(run), out) {
+    let handed = run_of(run);
+    match bench(sheet, samples, handed, out) {
         Benched::Refused(number, place) => Outcome::Refused(number, place),
         Benched::Done(n, next) => {
             put_run(run, next);

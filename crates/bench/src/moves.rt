@@ -1,9 +1,9 @@
 // Where a run goes from a state.
 ghost use mathlib.Core.Path.{_≡_};
+ghost use mathlib.Core.Bool.{false};
 ghost use Prim.Native.Nat.{ℕ, _+_, _*_, _<_, _≤_};
 ghost use lib.ListN.{length};
-ghost use Rattle.bench.specs.Run.{numberOf, elseOf, isLast, afterHit, moved, captureSlot};
-ghost use Rattle.programme.specs.Machine.{Machine};
+ghost use Rattle.bench.specs.Run.{numberOf, afterHit, moved, captureSlot};
 ghost use Rattle.programme.specs.Table.{tableLength, plain};
 ghost use Rattle.bench.specs.Asking.{addressesOf};
 use crate::Moved;
@@ -17,37 +17,33 @@ pub(crate) fn number_of(word: u32) -> u32
     if number == 0 { 1 } else { number }
 }
 
+fn going(state: u32, count: u32) -> Moved
+    ensures { λ r. ⌜ r ≡ record { state = state; count = count; ended = false } ⌝ }
+{
+    Moved {
+        state: state,
+        count: count,
+        ended: false,
+    }
+}
+
 // The hit sum matched.
 fn after_hit(word: u32, state: u32, count: u32) -> Moved
     requires { ⌜ (state < 16) × (count < 1048576) ⌝ }
     ensures { λ r. ⌜ r ≡ afterHit word state count ⌝ }
 {
     if count + 1 < number_of(word) {
-        return Moved {
-            state: state,
-            count: count + 1,
-            ended: false,
-        };
+        return going(state, count + 1);
     }
-    if lines::line_value(word, 31) == 1 {
+    let last = lines::line_value(word, 31) == 1;
+    if last | (state == 15) {
         return Moved {
             state: state,
             count: 0,
             ended: true,
         };
     }
-    if state == 15 {
-        return Moved {
-            state: state,
-            count: 0,
-            ended: true,
-        };
-    }
-    Moved {
-        state: state + 1,
-        count: 0,
-        ended: false,
-    }
+    going(state + 1, 0)
 }
 
 // The index of the first word of a state's hit sum; the else sum is 6 and the capture sum 12 words on.
@@ -82,15 +78,7 @@ pub(crate) fn move_on(table: &[u32], state: u32, count: u32, addresses: u32) -> 
         return after_hit(word, state, count);
     }
     if sum_at(table, sums + 6, addresses) {
-        return Moved {
-            state: word / 1048576 % 16,
-            count: 0,
-            ended: false,
-        };
+        return going(word / 1048576 % 16, 0);
     }
-    Moved {
-        state: state,
-        count: count,
-        ended: false,
-    }
+    going(state, count)
 }

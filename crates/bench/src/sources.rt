@@ -3,7 +3,6 @@ ghost use mathlib.Core.Path.{_≡_};
 ghost use Prim.Native.Nat.{_+_, _*_, _≤_, _<_};
 ghost use lib.ListN.{length};
 ghost use Rattle.lut.specs.Table.{oneIf};
-ghost use Rattle.programme.specs.Machine.{Machine};
 ghost use Rattle.programme.specs.Table.{tableLength, termAt, rangeAt, edgeAt, plain};
 ghost use Rattle.bench.specs.Asking.{sourcesFrom};
 

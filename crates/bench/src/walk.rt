@@ -1,11 +1,11 @@
 // The walk over the samples, in one pass.
 ghost use mathlib.Core.Path.{_≡_};
-ghost use Prim.Native.Nat.{_+_, _*_, _<_, _≤_};
-ghost use lib.ListN.{length, set};
+ghost use Prim.Native.Nat.{_+_, _<_};
+ghost use lib.ListN.{set};
 ghost use mathlib.Core.Bool.{true, cond};
 ghost use Rattle.lut.specs.Table.{oneIf};
 ghost use Rattle.bench.specs.Walk.{Starts, Walks};
-ghost use Rattle.programme.specs.Table.{tableLength, plain};
+ghost use Rattle.programme.specs.Table.{plain};
 use crate::Walked;
 use crate::moves::capture_matches;
 use crate::moves::move_on;

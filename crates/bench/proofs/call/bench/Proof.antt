@@ -1,19 +1,16 @@
-use native.Mathlib.Omega.{arith}
-use Rattle.peek.specs.Bytes.{Bytes}
-use mathlib.Core.Path.{_≡_, refl, sym, subst, _∙_}
+-- `bench` meets its contract: by the table that is made of the sheet. Assumes nothing.
+use mathlib.Core.Path.{refl, sym, subst}
 use mathlib.Core.List.{List}
+use native.Mathlib.Omega.{arith}
+use borrow.Author.Needs.{needs}
+use Rattle.peek.specs.Bytes.{Bytes}
 use Rattle.programme.specs.Machine.{Agree}
 use Rattle.programme.specs.Table.{plain}
 use Rattle.programme.proofs.Theorems.{agrees}
 use Rattle.bench.specs.Call.{machineOf}
 use Rattle.bench.proofs.Through.{table-refused, table-made, refused-call, table-call}
-use borrow.Author.Needs.{needs}
 use Rattle.bench.proofs.call.bench.Statement.{statement}
 use Rattle.bench.proofs.call.bench.Tie as tie
-use Rattle.bench.proofs.call.bench.Reads as reads
-use Rattle.bench.proofs.call.bench.Lts as lts
-use Rattle.bench.proofs.call.bench_table.Reads as bench-table-reads
-use Rattle.programme.proofs.prepare.Reads as prepare-reads
 
 slice-aggregate-prepare : tie.Need-slice-aggregate-prepare
 slice-aggregate-prepare c = search needs

@@ -1,12 +1,9 @@
+-- `start_accepted` meets its contract. Assumes nothing.
 use borrow.Author.Tests.{lt-ltb, le-ltb}
-use Rattle.bench.specs.Run.{startAccepted}
 use borrow.Author.Needs.{needs}
+use Rattle.bench.specs.Run.{startAccepted}
 use Rattle.bench.proofs.call.start_accepted.Statement.{statement}
 use Rattle.bench.proofs.call.start_accepted.Tie as tie
-use Rattle.bench.proofs.call.start_accepted.Reads as reads
-use Rattle.bench.proofs.call.start_accepted.Lts as lts
-use Rattle.bench.proofs.moves.number_of.Reads as number-of-reads
-use Rattle.bench.proofs.moves.word_of.Reads as word-of-reads
 
 word-of-requires : tie.Need-word-of-requires
 word-of-requires c κs = search needs

@@ -1,12 +1,8 @@
-use Rattle.bench.proofs.Handing.{done-count, words-done, words-refused}
+-- `bench_words` meets its contract: the call on the run that the words are. Assumes nothing.
 use borrow.Author.Needs.{needs}
+use Rattle.bench.proofs.Handing.{done-count, words-done, words-refused}
 use Rattle.bench.proofs.handed.bench_words.Statement.{statement}
 use Rattle.bench.proofs.handed.bench_words.Tie as tie
-use Rattle.bench.proofs.handed.bench_words.Reads as reads
-use Rattle.bench.proofs.handed.bench_words.Lts as lts
-use Rattle.bench.proofs.call.bench.Reads as bench-reads
-use Rattle.bench.proofs.handed.put_run.Reads as put-run-reads
-use Rattle.bench.proofs.handed.run_of.Reads as run-of-reads
 
 run-of-requires : tie.Need-run-of-requires
 run-of-requires c κs = search needs

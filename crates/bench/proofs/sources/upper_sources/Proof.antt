@@ -1,14 +1,10 @@
+-- `upper_sources` meets its contract. Assumes nothing.
+use mathlib.Core.Path.{_∙_}
 use native.Mathlib.Omega.{arith}
-use mathlib.Core.Path.{_≡_, ap, _∙_}
-use Rattle.bench.proofs.Found.{upper-found}
 use borrow.Author.Needs.{needs}
+use Rattle.bench.proofs.Found.{upper-found}
 use Rattle.bench.proofs.sources.upper_sources.Statement.{statement}
 use Rattle.bench.proofs.sources.upper_sources.Tie as tie
-use Rattle.bench.proofs.sources.upper_sources.Reads as reads
-use Rattle.bench.proofs.sources.upper_sources.Lts as lts
-use Rattle.bench.proofs.sources.below.Reads as below-reads
-use Rattle.bench.proofs.sources.edge_at.Reads as edge-at-reads
-use Rattle.bench.proofs.sources.range_at.Reads as range-at-reads
 
 edge-at-requires : tie.Need-edge-at-requires
 edge-at-requires c κs = search needs

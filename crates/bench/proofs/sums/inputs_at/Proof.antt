@@ -1,11 +1,9 @@
+-- `inputs_at` meets its contract. Assumes nothing.
 use native.Mathlib.Omega.{arith}
-use Rattle.bench.specs.Asking.{inputsAt}
 use borrow.Author.Needs.{needs}
+use Rattle.bench.specs.Asking.{inputsAt}
 use Rattle.bench.proofs.sums.inputs_at.Statement.{statement}
 use Rattle.bench.proofs.sums.inputs_at.Tie as tie
-use Rattle.bench.proofs.sums.inputs_at.Reads as reads
-use Rattle.bench.proofs.sums.inputs_at.Lts as lts
-use Rattle.bench.proofs.sums.answer_in.Reads as answer-in-reads
 
 answer-in-requires : tie.Need-answer-in-requires
 answer-in-requires c κs = search needs
@@ -39,7 +37,12 @@ add-result-3 c = search needs
 
 returns : tie.Need-returns
 unfolding inputsAt
-returns c = (rw (c .before .before .before .answer-in .ensures .0, c .before .before .answer-in2 .ensures .0, c .before .answer-in3 .ensures .0, c .answer-in4 .ensures .0), omega arith)
+returns c =
+    let t = c .before in
+    let s = t .before in (
+      rw (s .before .answer-in .ensures .0, s .answer-in2 .ensures .0, t .answer-in3 .ensures .0, c .answer-in4 .ensures .0),
+      omega arith,
+    )
 
 pub inputs-at-spec : {M : Type 1} → statement M
 inputs-at-spec =

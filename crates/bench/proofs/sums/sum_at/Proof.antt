@@ -1,12 +1,9 @@
-use Rattle.bench.specs.Asking.{sumAsked}
-use Rattle.programme.specs.Table.{sixAt}
+-- `sum_at` meets its contract. Assumes nothing.
 use borrow.Author.Needs.{needs}
+use Rattle.programme.specs.Table.{sixAt}
+use Rattle.bench.specs.Asking.{sumAsked}
 use Rattle.bench.proofs.sums.sum_at.Statement.{statement}
 use Rattle.bench.proofs.sums.sum_at.Tie as tie
-use Rattle.bench.proofs.sums.sum_at.Reads as reads
-use Rattle.bench.proofs.sums.sum_at.Lts as lts
-use Rattle.bench.proofs.sums.inputs_at.Reads as inputs-at-reads
-use Rattle.lut.proofs.answer_at.Reads as answer-at-reads
 
 add-inputs-at : tie.Need-add-inputs-at
 add-inputs-at c = search needs
@@ -82,7 +79,16 @@ answer-at-requires-3 c κs = search needs
 
 returns : tie.Need-returns
 unfolding sumAsked sixAt
-returns c = rw (c .answer-at3 .ensures, c .before .before .before .answer-at .ensures, c .before .before .answer-at2 .ensures, c .before .before .before .before .before .before .before .before .inputs-at .ensures .0, c .before .before .before .before .before .inputs-at2 .ensures .0)
+returns c =
+    let mids = c .before .before in
+    let last = mids .before .before .before in
+    rw (
+      c .answer-at3 .ensures,
+      mids .before .answer-at .ensures,
+      mids .answer-at2 .ensures,
+      last .before .before .before .inputs-at .ensures .0,
+      last .inputs-at2 .ensures .0,
+    )
 
 pub sum-at-spec : {M : Type 1} → statement M
 sum-at-spec =

@@ -1,14 +1,11 @@
-use mathlib.Core.Path.{_≡_, sym, ap, _∙_}
-use lib.ListN.{length}
-use native.Mathlib.Omega.{arith}
-use lib.Seq.{set-out}
-use lib.ListN.{length-set}
+-- `put_word` meets its contract: a word beyond the lent ones is not stored, and stores nothing in `set` either. Assumes nothing.
+use mathlib.Core.Path.{sym, ap, _∙_}
 use mathlib.Core.Logic.{⊎-elim}
 use borrow.Author.Needs.{needs}
+use lib.ListN.{length, length-set}
+use lib.Seq.{set-out}
 use Rattle.bench.proofs.walk.put_word.Statement.{statement}
 use Rattle.bench.proofs.walk.put_word.Tie as tie
-use Rattle.bench.proofs.walk.put_word.Reads as reads
-use Rattle.bench.proofs.walk.put_word.Lts as lts
 
 mul-out : tie.Need-mul-out
 mul-out c = search needs

@@ -1,24 +1,16 @@
-use Rattle.bench.specs.Run.{standing}
-use Prim.Native.Nat.{_+_}
+-- `walk` meets its contract: the loop's invariant is `Walking`, stepped by its laws. Assumes nothing.
+use Prim.Native.Nat.{_+_, _≤_, _-_}
+use mathlib.Core.Path.{_≡_, refl}
 use native.Mathlib.Omega.{arith}
-use mathlib.Core.Path.{_≡_, refl, sym, ap, _∙_}
-use Prim.Native.Nat.{_≤_, _<_, _-_}
+use borrow.Author.Needs.{needs}
 use lib.ListN.{length, getD}
-use Rattle.programme.specs.Machine.{Machine}
-use Rattle.bench.specs.Run.{numberOf}
 use Rattle.programme.specs.Table.{plain}
-use Rattle.bench.specs.Walk.{runFrom, Starts}
+use Rattle.bench.specs.Run.{standing}
+use Rattle.bench.specs.Walk.{runFrom}
 use Rattle.bench.proofs.Standing.{number-within}
 use Rattle.bench.proofs.Walking.{Walking, walk-starts, walk-turns, walk-on, walk-ends, walk-stops}
-use borrow.Author.Needs.{needs}
 use Rattle.bench.proofs.walk.walk.Statement.{statement}
 use Rattle.bench.proofs.walk.walk.Tie as tie
-use Rattle.bench.proofs.walk.walk.Reads as reads
-use Rattle.bench.proofs.walk.walk.Lts as lts
-use Rattle.bench.proofs.moves.capture_matches.Reads as capture-matches-reads
-use Rattle.bench.proofs.moves.move_on.Reads as move-on-reads
-use Rattle.bench.proofs.sources.sources_of.Reads as sources-of-reads
-use Rattle.bench.proofs.walk.put_word.Reads as put-word-reads
 
 abbrev Inv-loop : tie.InvT-loop
 Inv-loop table samples state count earlier out₀ state₀ count₀ earlier₀ n₀ i₀ out state' count' earlier' n i =
@@ -30,9 +22,14 @@ abbrev μ-loop : tie.MeasureT-loop
 
 loop-holds : tie.Need-loop-holds Inv-loop μ-loop
 loop-holds c =
-    let a = c .before .before .before .args in
-    let p = c .before .before .before .pre in
-    (p .whole, p .few, walk-starts (plain (a .table .now)) (a .samples .now) (runFrom (a .state) (a .count) (a .earlier)) (a .out .now) (a .state) (a .count) (a .earlier) refl (p .state-fits, p .count-fits))
+    let b = c .before .before .before in
+    let a = b .args in
+    let p = b .pre in (
+      p .whole,
+      p .few,
+      walk-starts (plain (a .table .now)) (a .samples .now) (runFrom (a .state) (a .count) (a .earlier)) (a .out .now) (a .state) (a .count)
+          (a .earlier) refl (p .state-fits, p .count-fits),
+    )
 
 mul-sample : tie.Need-mul-sample Inv-loop μ-loop
 mul-sample c = search needs
@@ -64,15 +61,22 @@ add-i c = search needs
 
 -- the sample was looked at
 turned : (c : tie.After-move-on Inv-loop μ-loop)
-    → Walking (plain (c .before .before .before .before .before .before .before .before .before .before .before .before .before .before .args .table .now)) (c .before .before .before .before .before .before .before .before .before .before .before .before .before .before .args .samples .now) (runFrom (c .before .before .before .before .before .before .before .before .before .before .before .before .before .before .args .state) (c .before .before .before .before .before .before .before .before .before .before .before .before .before .before .args .count) (c .before .before .before .before .before .before .before .before .before .before .before .before .before .before .args .earlier)) (c .before .before .before .before .before .before .before .before .before .before .before .before .before .before .args .out .now)
-    (c .before .before .before .before .before .before .before .before .before .before .loop .i + 1) (c .before .before .before .put-word .result) (standing (c .move-on .result) (getD (c .before .before .before .before .before .before .before .before .before .before .before .before .before .before .args .samples .now) (c .before .before .before .before .before .before .before .before .before .before .loop .i) 0)) (c .before .before .before .put-word .last .0)
+    → let p = c .before .before .before in
+    let l = p .before .before .before .before .before .before .before in
+    let a = l .before .before .before .before .args in
+    Walking (plain (a .table .now)) (a .samples .now) (runFrom (a .state) (a .count) (a .earlier)) (a .out .now) (l .loop .i + 1)
+    (p .put-word .result) (standing (c .move-on .result) (getD (a .samples .now) (l .loop .i) 0)) (p .put-word .last .0)
 unfolding plain
 turned c =
-    let a = c .before .before .before .before .before .before .before .before .before .before .before .before .before .before .args in
-    let l = c .before .before .before .before .before .before .before .before .before .before .loop in
-    walk-turns (plain (a .table .now)) (a .samples .now) (runFrom (a .state) (a .count) (a .earlier)) (a .out .now) (l .i) (l .n) (l .state) (l .count) (l .earlier) (l .out)
-    (l .inv .2) (c .before .before .before .before .before .before .before .before .before .loop-test .taken) (getD (a .samples .now) (l .i) 0) (c .before .before .before .before .before .before .before .sources-of .result) (c .before .before .before .before .capture-matches .result) (c .before .before .before .put-word .result) (c .before .before .before .put-word .last .0) (c .move-on .result)
-    refl (c .before .before .before .before .before .before .before .sources-of .ensures) (c .before .before .before .before .capture-matches .ensures _ (c .before .before .before .before .before .before .addresses-of .ensures)) (c .before .before .before .put-word .ensures .0) (c .before .before .before .put-word .ensures .1) (c .move-on .ensures _ (c .before .before .before .before .before .before .addresses-of .ensures))
+    let p = c .before .before .before in
+    let f = p .before .before .before in
+    let e = f .addresses-of .ensures in
+    let l = f .before .before .before .before in
+    let a = l .before .before .before .before .args in
+    walk-turns (plain (a .table .now)) (a .samples .now) (runFrom (a .state) (a .count) (a .earlier)) (a .out .now) (l .loop .i) (l .loop .n)
+    (l .loop .state) (l .loop .count) (l .loop .earlier) (l .loop .out) (l .loop .inv .2) (f .before .before .before .loop-test .taken) _ _ _ _ _ _
+    refl (f .before .sources-of .ensures) (p .before .capture-matches .ensures _ e) (p .put-word .ensures .0) (p .put-word .ensures .1)
+    (c .move-on .ensures _ e)
 
 same-length : tie.Need-same-length Inv-loop μ-loop
 same-length c = search needs
@@ -81,7 +85,8 @@ returns : tie.Need-returns Inv-loop μ-loop
 returns c =
     let l = c .before .before .before .before .before .before .before .before .before .before .before in
     let a = l .before .before .before .before .args in
-    walk-stops (plain (a .table .now)) (a .samples .now) (a .state) (a .count) (a .earlier) (a .out .now) _ _ _ _ (c .before .move-on .result) (turned (c .before)) (c .if1 .taken)
+    walk-stops (plain (a .table .now)) (a .samples .now) (a .state) (a .count) (a .earlier) (a .out .now) _ _ _ _ (c .before .move-on .result)
+    (turned (c .before)) (c .if1 .taken)
 
 loop-less : tie.Need-loop-less Inv-loop μ-loop
 loop-less c = search needs
@@ -92,7 +97,8 @@ loop-again c =
     let a = l .before .before .before .before .args in (
       l .loop .inv .0,
       l .loop .inv .1,
-      walk-on (plain (a .table .now)) (a .samples .now) (runFrom (a .state) (a .count) (a .earlier)) (a .out .now) _ _ _ _ (c .before .move-on .result) (turned (c .before)) (c .if1 .left),
+      walk-on (plain (a .table .now)) (a .samples .now) (runFrom (a .state) (a .count) (a .earlier)) (a .out .now) _ _ _ _
+          (c .before .move-on .result) (turned (c .before)) (c .if1 .left),
     )
 
 same-length-2 : tie.Need-same-length-2 Inv-loop μ-loop
@@ -100,9 +106,9 @@ same-length-2 c = search needs
 
 returns-2 : tie.Need-returns-2 Inv-loop μ-loop
 returns-2 c =
-    let a = c .before .before .before .before .before .args in
-    let l = c .before .loop in
-    walk-ends (plain (a .table .now)) (a .samples .now) (a .state) (a .count) (a .earlier) (a .out .now) (l .i) (l .n) (l .state) (l .count) (l .earlier) (l .out) (l .inv .2) (omega arith)
+    let l = c .before in
+    let a = l .before .before .before .before .args in
+    walk-ends (plain (a .table .now)) (a .samples .now) (a .state) (a .count) (a .earlier) (a .out .now) _ _ _ _ _ _ (l .loop .inv .2) (omega arith)
 
 pub walk-spec : {M : Type 1} → statement M
 walk-spec =
