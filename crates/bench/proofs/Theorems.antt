@@ -2,7 +2,7 @@
 use Prim.Native.Nat.{ℕ, _+_, _-_, _≤_}
 use mathlib.Core.Path.{_≡_, refl, sym, ap, ap₂, _∙_}
 use mathlib.Core.Bool.{Bool, true, false}
-use mathlib.Core.List.{List, _++_}
+use mathlib.Core.List.{List, _++_, append-nil}
 use native.Mathlib.Omega.{arith}
 use borrow.Author.Tests.{le-ltb}
 use lib.Dec.{ltb}
@@ -12,9 +12,10 @@ use Rattle.sheet.specs.Reading.{verdict}
 use Rattle.bench.specs.declared.Earlier.{Earlier}
 use Rattle.bench.specs.declared.Earlier.the-variants.{Nothing, Word}
 use Rattle.bench.specs.declared.Run.{Run}
+use Rattle.bench.specs.declared.Benched.{Benched}
 use Rattle.bench.specs.declared.Benched.the-variants.{Done, Refused}
 use Rattle.bench.specs.Run.{handedOn, taken, startAccepted, Subsequence}
-use Rattle.bench.specs.Call.{mostSamples, delivered, answered, machineOf, benched, benchedLeft}
+use Rattle.bench.specs.Call.{mostSamples, delivered, answered, machineOf, benched, leftBy, benchedLeft}
 use Rattle.bench.specs.Handed.{isRun, runOf, wordsOf}
 use Rattle.bench.proofs.Pieces.{handed-pieces, taken-pieces, ended-hands-on, ended-takes-nothing, taken-subsequence}
 use Rattle.bench.proofs.Calling.{inTurn, inRoom, ended-delivered}
@@ -122,6 +123,33 @@ ended-stays s xs r room n r′ e h =
       d .count ∙ ap length (ended-takes-nothing (machineOf s) r xs h),
       d .run ∙ ended-hands-on (machineOf s) r xs h,
     )
+
+-- a run that ended within the samples takes nothing of those behind: with them the call answers and writes the same
+-- [D4.4]
+module _ (s xs ys : List ℕ) (r : Run) (out : List ℕ) (n : ℕ) (r′ : Run) (e : benched s xs r (length out) ≡ Done n r′) (h : r′ .ended ≡ true)
+    (few : length (xs ++ ys) ≤ mostSamples) where
+  nothing-more : taken (machineOf s) r (xs ++ ys) ≡ taken (machineOf s) r xs
+  nothing-more =
+      let m = machineOf s in
+      let d = bench-did s xs r (length out) n r′ e in
+      let over : handedOn m r xs .ended ≡ true = ap (λ (q : Run). q .ended) (sym (d .run)) ∙ h in
+      taken-pieces m r xs ys ∙ ap (λ (t : List ℕ). taken m r xs ++ t) (ended-takes-nothing m (handedOn m r xs) ys over)
+      ∙ append-nil (taken m r xs)
+
+  pub after-the-end : benched s (xs ++ ys) r (length out) ≡ Done n r′
+  after-the-end =
+      let m = machineOf s in
+      let d = bench-did s xs r (length out) n r′ e in
+      let over : handedOn m r xs .ended ≡ true = ap (λ (q : Run). q .ended) (sym (d .run)) ∙ h in
+      let same = ap length nothing-more in
+      let fits = d .fits in
+      does s (xs ++ ys) r (length out) (sheet-accepted s xs r (length out) n r′ e) few (d .start) (omega arith)
+      ∙ ap₂ Done (same ∙ sym (d .count)) (handed-pieces m r xs ys ∙ ended-hands-on m (handedOn m r xs) ys over ∙ sym (d .run))
+
+  pub after-the-end-writes : benchedLeft s (xs ++ ys) r out ≡ benchedLeft s xs r out
+  unfolding benchedLeft
+  after-the-end-writes =
+      ap₂ (λ (b : Benched) (t : List ℕ). leftBy b t out) (after-the-end ∙ sym e) nothing-more
 
 -- such a run is never refused with 12 [D4.4]
 pub ended-never-short : (s xs : List ℕ) (r : Run) → verdict s ≡ Accepted → r .ended ≡ true → (room place : ℕ)

@@ -10,3 +10,4 @@ pub mod NoticeLists
 pub mod Demand3
 pub mod Sizes
 pub mod NoticeExamples
+pub mod Runs
