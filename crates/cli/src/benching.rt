@@ -100,6 +100,7 @@ fn front<'a>(words: &'a [u32], n: usize) -> &'a [u32] {
     if n < words.len() { &words[..n] } else { words }
 }
 
+// The words are too many for a run; the command that is named makes a file that is not too long.
 fn too_many(arg: usize, place: usize, err: i32) -> u8 {
     let mut detail = [0u8; 256];
     let a = text::put_number(&mut detail, 0, b"more than ", MOST_SAMPLES * WIDTH);
@@ -115,7 +116,7 @@ fn too_many(arg: usize, place: usize, err: i32) -> u8 {
         b" samples of four bytes; head -c ",
         MOST_SAMPLES * WIDTH,
     );
-    let d = buffer::put_at(&mut detail, c, b" gives as many from the file's start");
+    let d = text::put_number(&mut detail, c, b" keeps the first ", MOST_SAMPLES);
     console::refused(
         arg,
         bench::TOO_MANY_SAMPLES,

@@ -137,6 +137,6 @@ fn write_notice_help(fd: i32) -> bool {
 fn write_bench_help(fd: i32) -> bool {
     io::write_all(
         fd,
-        b"Runs the sheet's programme over samples and writes those that capture takes, in their order.\nWORDS holds the samples, the first one first: words of 32 bits, four bytes each, least byte first, at most 4096.\nThe result has the same form. The run starts afresh: state 0, count 0, the first sample as its own earlier one.\nWhere it ends, no later sample is looked at. The timers never hit.\nBytes are not written to a terminal, unless with --force.\n",
+        b"Runs the sheet's programme over samples and writes those that capture takes, in their order.\nWORDS holds the samples in their order: words of 32 bits, four bytes each, least byte first, at most 4096.\nThe result has the same form. The run starts afresh: state 0, count 0, the first sample as its own earlier one.\nWhere it ends, no later sample is looked at. The timers never hit.\nBytes are not written to a terminal, unless with --force.\n",
     )
 }
