@@ -1,3 +1,4 @@
 pub mod Faults
 pub mod Rising
 pub mod Writing
+pub mod Left

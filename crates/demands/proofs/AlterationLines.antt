@@ -23,15 +23,13 @@ use Rattle.kinds.proofs.Ways as ways
 use Rattle.kinds.proofs.Ways.{change-says, word-iff-alike}
 use Rattle.records.specs.Sections.{sections, labelSize, mostOf, labelOf}
 use Rattle.sheet.specs.Reading.{verdict}
-use Rattle.sheet.specs.Parsed.{Faultless, parse}
-use Rattle.sheet.proofs.Descriptions.{bytes-parsed, bytes-found}
-use Rattle.sheet.proofs.Found.{find-found}
-use Rattle.sheet.proofs.Records.{section-ordered, record-faultless}
+use Rattle.sheet.specs.Parsed.{Faultless, recordWith}
+use Rattle.sheet.proofs.Slots.{description-bytes, record-sound, description-whole, has-below}
 use Rattle.notice.specs.declared.Finding.{Finding}
 use Rattle.notice.specs.declared.Finding.the-variants.{New, Gone, Name, Changed}
 use Rattle.notice.specs.Findings.{line}
 use Rattle.notice.specs.Notice.{noticeLines, noticeText}
-use Rattle.notice.specs.Shared.{recordOf, Has, Shared, descriptionAt, Gives}
+use Rattle.notice.specs.Shared.{Has, Shared, descriptionAt, Gives}
 use Rattle.notice.proofs.Members as members
 use Rattle.demands.specs.Apart.{SomeInputTells}
 use Rattle.demands.proofs.Tellings.{oper-iff, altr-shown, least}
@@ -42,36 +40,16 @@ pub record AlterationLine (old new : List ℕ) (k slot : ℕ) : Type 0 where
   pub input : Input
   pub there : List·Memᴰ (line k slot (Changed (Altr input))) (noticeLines old new)
 
--- ---- the records of an accepted sheet
-
-module _ (s : List ℕ) (b : Bytes s) (ok : verdict s ≡ Accepted) (k slot : ℕ) (hk : k < sections) where
-  description-bytes : Bytes (descriptionAt k slot s)
-  description-bytes = bytes-drop (1 + labelSize) (recordOf k slot s) (bytes-found slot (getD (parse s) k []) (bytes-parsed s k hk b))
-
-  record-sound : Has k slot s → Faultless k 0 (recordOf k slot s)
-  record-sound h =
-      let f = find-found slot (getD (parse s) k []) h in
-      subst (Faultless k 0) (f .is) (record-faultless (section-ordered s k hk ok) (f .place) (f .within))
-
-  description-whole : Has k slot s → length (descriptionAt k slot s) ≡ descriptionSize k
-  description-whole h = omega (arith, length-drop (1 + labelSize) (recordOf k slot s), record-sound h .whole)
-
-  has-below : Has k slot s → slot < mostOf k
-  has-below h =
-      let f = find-found slot (getD (parse s) k []) h in
-      let l = record-sound h .slot-fits in
-      omega (arith, f .has)
-
 module _ (old new : List ℕ) (bo : Bytes old) (bn : Bytes new) (ao : verdict old ≡ Accepted) (an : verdict new ≡ Accepted) where
   -- a line is there exactly if what it says of its slot holds
   pub line-iff : (k slot : ℕ) (f : Finding) → k < sections
-      → List·Memᴰ (line k slot f) (noticeLines old new) ↔ Gives k (recordOf k slot old) (recordOf k slot new) f
+      → List·Memᴰ (line k slot f) (noticeLines old new) ↔ Gives k (recordWith k slot old) (recordWith k slot new) f
   line-iff k slot f hk = (
     (λ i. members.line-iff old new k slot f .0 i .2),
     (λ g. members.line-iff old new k slot f .1 (hk, below f g, g)),
   )
     where
-      below : (f : Finding) → Gives k (recordOf k slot old) (recordOf k slot new) f → slot < mostOf k
+      below : (f : Finding) → Gives k (recordWith k slot old) (recordWith k slot new) f → slot < mostOf k
       below New g = has-below new bn an k slot hk (g .1)
       below Gone g = has-below old bo ao k slot hk (g .0)
       below Name g = has-below old bo ao k slot hk (g .0)
@@ -80,7 +58,7 @@ module _ (old new : List ℕ) (bo : Bytes old) (bn : Bytes new) (ao : verdict ol
   -- NAME where the labels are not the same, and only there [N5]
   pub name-line : (k slot : ℕ) → k < sections
       → List·Memᴰ (line k slot Name) (noticeLines old new)
-      ↔ (Has k slot old × Has k slot new × (labelOf (recordOf k slot old) ≡ labelOf (recordOf k slot new) → ⊥))
+      ↔ (Has k slot old × Has k slot new × (labelOf (recordWith k slot old) ≡ labelOf (recordWith k slot new) → ⊥))
   name-line k slot = line-iff k slot Name
 
   -- the two descriptions of a shared slot, where they differ

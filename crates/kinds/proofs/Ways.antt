@@ -33,7 +33,7 @@ use Rattle.state.proofs.Ways as state-ways
 use Rattle.kinds.specs.declared.Change.{Change}
 use Rattle.kinds.specs.declared.Change.the-variants.{Oper, Word, Altr}
 use Rattle.kinds.specs.Change.{told, Says}
-use Rattle.kinds.specs.Table.{Kind, termKind, rangeKind, edgeKind, stateKind, sections, kindOf, descriptionSize, descriptionFault, Accepted, chainCount, chainLength, wordsOf, descriptionRead, cutDescription, showsOf, changeOf, lengthsOf, pieces, chainsOf}
+use Rattle.kinds.specs.Table.{Kind, termKind, rangeKind, edgeKind, stateKind, sections, kindOf, descriptionSize, descriptionFault, Accepted, chainCount, chainLength, wordsOf, descriptionRead, cutDescription, showsOf, changeOf, entryOf, missingOf, entrySize, lengthsOf, pieces, chainsOf}
 use Rattle.kinds.proofs.Rows.{of-kind, of-any, at-most, size-positive}
 
 -- ---- words and chains
@@ -49,6 +49,11 @@ words-count k d =
 pub words-few : (k : ℕ) (d : List ℕ) → length (wordsOf k d) ≤ 32
 unfolding chainCount chainLength
 words-few k d = rw (words-count k d) (at-most (λ x. x .chains * x .each) 32 tt k)
+
+-- an entry has as many numbers as that of a slot without record
+pub entry-count : (k : ℕ) (d : List ℕ) → length (entryOf k d) ≡ entrySize k
+unfolding entryOf entrySize missingOf
+entry-count k d = of-any (λ x. length (x .entry d) ≡ length (x .missing)) (refl, (refl, (refl, (sum-ways.words-count d, (state-ways.words-count d, tt))))) refl k
 
 pub pieces-lengths : (c n : ℕ) (ws : List ℕ) → c * n ≤ length ws → map length (pieces (replicate c n) ws) ≡ replicate c n
 unfolding pieces

@@ -1,2 +1,3 @@
 pub mod Change
+pub mod Entry
 pub mod Table

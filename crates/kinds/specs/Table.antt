@@ -26,6 +26,7 @@ use Rattle.kinds.specs.declared.Row.{Row}
 use Rattle.kinds.specs.declared.Change.{Change}
 use Rattle.kinds.specs.declared.Change.the-variants.{Oper, Altr}
 use Rattle.kinds.specs.Change.{told}
+use Rattle.kinds.specs.Entry.{patternEntry, rangeEntry, edgeEntry}
 
 -- what each kind has, a row of the table of sections [S13]
 pub record Kind : Type 0 where
@@ -48,6 +49,9 @@ pub record Kind : Type 0 where
   -- what a description shows on an input, and what is found of two whose bytes differ
   pub shows : List ℕ → Input → ℕ
   pub change : List ℕ → List ℕ → Change
+  -- a description's entry in a bench's table, and the entry of a slot without record, which never hits
+  pub entry : List ℕ → List ℕ
+  pub missing : List ℕ
 
 -- the number of the section that holds terms [S1]
 abbrev pub TERMS : ℕ
@@ -86,6 +90,8 @@ termKind =
       cut = term.cut;
       shows = λ d. inNumbers (term-rule.hit (term.fromBytes d));
       change = λ old new. told (term.telling old new);
+      entry = λ d. patternEntry (term.fromBytes d);
+      missing = 1 ∷ 0 ∷ [];
     }
 
 -- ranges: RANG and R, at most 2, address 0x30 + 2 * slot, two chains of sixteen words [S1, W6, N3, C7]
@@ -105,6 +111,8 @@ rangeKind =
       cut = λ d. d;
       shows = λ d. inNumbers (range-rule.hit (range.fromBytes d));
       change = λ old new. told (range-telling.telling old new);
+      entry = λ d. rangeEntry (range.fromBytes d);
+      missing = 1 ∷ 0 ∷ 0 ∷ [];
     }
 
 -- edges: EDGE and E, at most 2, address 0x34 + slot, one chain of eight words [S1, W11, N3, C7]
@@ -124,6 +132,8 @@ edgeKind =
       cut = λ d. d;
       shows = λ d. inNumbers (edge-rule.hit (edge.fromBytes d));
       change = λ old new. told (edge.telling old new);
+      entry = λ d. edgeEntry (edge.fromBytes d);
+      missing = 0 ∷ 0 ∷ 0 ∷ [];
     }
 
 -- sums: SUMS and S, at most 48, one chain of six words; their change is always OPER [S1, W14, N3, N6, C7]
@@ -143,6 +153,8 @@ sumKind =
       cut = λ d. d;
       shows = λ d. inNumbers (sum-model.hit (sum.fromBytes d));
       change = λ old new. Oper;
+      entry = sum.words;
+      missing = 0 ∷ 0 ∷ 0 ∷ 0 ∷ 0 ∷ 0 ∷ [];
     }
 
 -- states: STAT and Q, at most 16, address the slot, one chain of one word; their change is ALTR without an input
@@ -163,6 +175,8 @@ stateKind =
       cut = λ d. d;
       shows = λ d. onNothing (state-words.wordOf (state.fromBytes d));
       change = λ old new. Altr Nothing;
+      entry = state.words;
+      missing = 1 ∷ [];
     }
 
 -- a section that no sheet has: no records, no words, and it shows 0 [S13]
@@ -182,6 +196,8 @@ noKind =
       cut = λ d. d;
       shows = λ d i. 0;
       change = λ old new. Oper;
+      entry = λ d. [];
+      missing = [];
     }
 
 -- THE TABLE, by section number [S1, S13]
@@ -252,6 +268,19 @@ showsOf k d = kindOf k .shows d
 unfoldable pub changeOf : (k : ℕ) (old new : List ℕ) → Change
 changeOf k old new = kindOf k .change old new
 
+-- the entry of a description of section k in a bench's table; of a sum or a state it is the words [R11]
+unfoldable pub entryOf : (k : ℕ) (d : List ℕ) → List ℕ
+entryOf k d = kindOf k .entry d
+
+-- the entry of a slot of section k without record: a detector that never hits, a sum that never matches, a state of
+-- number 1, else state 0 and no flags [R2, R4, R5, R11]
+unfoldable pub missingOf : ℕ → List ℕ
+missingOf k = kindOf k .missing
+
+-- how many numbers an entry of section k has: 2, 3, 3, 6 and 1 [R11]
+unfoldable pub entrySize : ℕ → ℕ
+entrySize k = length (missingOf k)
+
 -- the same by meaning: which descriptions of section k are accepted (*accepted* is the buyer's term) [G2]
 abbrev pub Accepted : (k : ℕ) (d : List ℕ) → Type 0
 Accepted zero d = term-rule.Accepted (term.fromBytes d)
@@ -265,7 +294,7 @@ Accepted (suc (suc (suc (suc (suc k))))) d = ⊥
 
 -- the numbers of section k, side by side [S13]
 abbrev pub rowOf : ℕ → Row
-rowOf k = record { name = nameOf k; letter = letterOf k; most = mostOf k; size = descriptionSize k; chains = chainCount k; each = chainLength k }
+rowOf k = record { name = nameOf k; letter = letterOf k; most = mostOf k; size = descriptionSize k; chains = chainCount k; each = chainLength k; entry = entrySize k }
 
 -- how many words each chain of section k's items has [W4, W6, W11, W14, W19]
 unfoldable pub lengthsOf : (k : ℕ) → List ℕ

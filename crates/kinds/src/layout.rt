@@ -15,6 +15,7 @@ const TERM: Row = Row {
     size: 8,
     chains: 1,
     each: 4,
+    entry: 2,
 };
 
 const RANGE: Row = Row {
@@ -24,6 +25,7 @@ const RANGE: Row = Row {
     size: 12,
     chains: 2,
     each: 16,
+    entry: 3,
 };
 
 const EDGE: Row = Row {
@@ -33,6 +35,7 @@ const EDGE: Row = Row {
     size: 12,
     chains: 1,
     each: 8,
+    entry: 3,
 };
 
 const SUM: Row = Row {
@@ -42,6 +45,7 @@ const SUM: Row = Row {
     size: 11,
     chains: 1,
     each: 6,
+    entry: 6,
 };
 
 const STATE: Row = Row {
@@ -51,6 +55,7 @@ const STATE: Row = Row {
     size: 13,
     chains: 1,
     each: 1,
+    entry: 1,
 };
 
 const NONE: Row = Row {
@@ -60,6 +65,7 @@ const NONE: Row = Row {
     size: 0,
     chains: 0,
     each: 0,
+    entry: 0,
 };
 
 pub fn row_of(section: usize) -> Row

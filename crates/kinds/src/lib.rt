@@ -3,6 +3,7 @@
 // Rests on: the kinds, each in its crate (term, range with range_telling, edge, sum, state).
 mod back;
 mod describe;
+mod entries;
 mod layout;
 
 pub use back::place_at;
@@ -10,6 +11,8 @@ pub use describe::change_of;
 pub use describe::fault;
 pub use describe::put_back;
 pub use describe::put_words;
+pub use entries::put_entry;
+pub use entries::put_missing;
 pub use layout::address;
 pub use layout::chain_count;
 pub use layout::chain_length;
@@ -47,6 +50,8 @@ pub struct Row {
     // How many chains an item has, at neighbouring addresses, and how many words each of them.
     pub chains: usize,
     pub each: usize,
+    // How many numbers an entry has in the table that a bench makes of a sheet.
+    pub entry: usize,
 }
 
 // What an address starts.

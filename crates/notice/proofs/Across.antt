@@ -1,39 +1,18 @@
 -- The notice, section by section: what is still to be written makes what was to be written. Assumes nothing.
 use Prim.Native.Nat.{ℕ, suc, _+_, _-_, _≤_, _<_}
-use mathlib.Core.Path.{_≡_, ap, _∙_}
+use mathlib.Core.Path.{_≡_}
 use mathlib.Core.List.{List, [], _++_}
 use native.Mathlib.Omega.{arith}
-use lib.ListN.{length, getD, take, drop}
+use lib.ListN.{length, getD}
 use Rattle.buffer.specs.Room.{Wrote}
-use Rattle.buffer.specs.declared.Verdict.the-variants.{Accepted}
 use Rattle.records.specs.Sections.{sections, mostOf}
 use Rattle.records.specs.Records.{recordsIn}
-use Rattle.sheet.specs.Reading.{verdict}
-use Rattle.sheet.specs.Parts.{judgedOf}
-use Rattle.sheet.specs.Parsed.{Ordered, parse}
-use Rattle.sheet.specs.declared.Judged.{Judged}
-use Rattle.sheet.proofs.Laid.{part-at}
-use Rattle.sheet.proofs.Records.{section-ordered, section-joined, records-of}
+use Rattle.sheet.specs.Parsed.{parse}
+use Rattle.buffer.proofs.Left.{Left, left-start, left-room, left-turn, left-end}
 use Rattle.notice.specs.Text.{renderAll}
 use Rattle.notice.specs.Notice.{linesFrom, sectionsLines, noticeLines, noticeText}
-use Rattle.notice.proofs.Lines.{renderAll-append, Left, left-start, left-room, left-turn, left-end}
+use Rattle.notice.proofs.Lines.{renderAll-append}
 use Rattle.notice.proofs.Walk.{sectionText}
-
--- the part of section k, as it is cut out by where the sections lie
-pub record Cut (s : List ℕ) (judged : Judged) (k : ℕ) (part : List ℕ) : Type 0 where
-  pub accepted : verdict s ≡ Accepted
-  pub laid : judged ≡ judgedOf s
-  pub is : part ≡ take (getD (judged .sizes) k 0) (drop (getD (judged .starts) k 0) s)
-
--- its records are those of the sheet's section
-module _ (s : List ℕ) (judged : Judged) (k : ℕ) (part : List ℕ) (h : k < sections) (c : Cut s judged k part) where
-  pub part-records : recordsIn k part ≡ getD (parse s) k []
-  part-records =
-      let e : part ≡ take (getD (judgedOf s .sizes) k 0) (drop (getD (judgedOf s .starts) k 0) s) = rw (c .laid) at (c .is) in
-      ap (recordsIn k) (e ∙ part-at s k h (c .accepted) ∙ section-joined s k h (c .accepted)) ∙ records-of (section-ordered s k h (c .accepted))
-
-  pub part-ordered : Ordered k 0 (recordsIn k part)
-  part-ordered = rw part-records (section-ordered s k h (c .accepted))
 
 -- the text of the sections from section k on
 abbrev pub textOn : (k : ℕ) (old new : List ℕ) → List ℕ

@@ -1,13 +1,10 @@
--- The text of lines: how lists of lines render, how long the text of one is, and texts written one behind the other.
--- Assumes nothing.
+-- The text of lines: how lists of lines render, and how long the text of one is. Assumes nothing.
 use Prim.Native.Nat.{ℕ, zero, suc, _+_, _-_, _≤_}
 use mathlib.Core.Path.{_≡_, refl, sym, ap, _∙_}
 use mathlib.Core.List.{List, [], _∷_, _++_, append-assoc, append-nil}
 use native.Mathlib.Omega.{arith}
 use lib.ListN.{length, take, drop, length-append}
 use lib.Seq.{take-all}
-use Rattle.buffer.specs.Room.{write, Wrote}
-use Rattle.buffer.proofs.Writing.{Pending, pending-start, pending-write, pending-end}
 use Rattle.lut.specs.declared.Input.{Input}
 use Rattle.kinds.specs.Table.{nameOf}
 use Rattle.kinds.specs.declared.Change.the-variants.{Altr}
@@ -60,32 +57,3 @@ render-length l =
 
 pub one-length : (l : Line) → length (renderAll (l ∷ [])) ≡ 8 + length (findingText (l .finding))
 one-length l = ap length (renderAll-one l) ∙ render-length l
-
--- ---- a text that is written piece by piece from an index on: `rest` of it is left, to be written at `at`
-
-pub record Left (from : ℕ) (text out₀ out : List ℕ) (at : ℕ) (rest : List ℕ) : Type 0 where
-  pub pending : Pending out₀ (write from text out₀) at rest out
-  pub count : at + length rest ≡ from + length text
-
-pub left-start : (from : ℕ) (text out : List ℕ) → from + length text ≤ length out → Left from text out out from text
-left-start from text out h = record { pending = pending-start from text out h; count = refl }
-
-module _ (from : ℕ) (text out₀ out : List ℕ) (at : ℕ) (rest : List ℕ) (l : Left from text out₀ out at rest) where
-  -- the next piece fits
-  pub left-room : (now later : List ℕ) → rest ≡ now ++ later → at + length now ≤ length out
-  left-room now later e =
-      let r : at + length (now ++ later) ≤ length out = rw e at (l .pending .room) in
-      omega (arith, length-append now later)
-
-  pub left-turn : (now later out′ : List ℕ) (at′ : ℕ) → rest ≡ now ++ later → Wrote at now out out′ at′ → Left from text out₀ out′ at′ later
-  left-turn now later out′ at′ e w =
-      let c : at + length (now ++ later) ≡ from + length text = rw e at (l .count) in
-      record {
-        pending = pending-write out₀ _ at at′ rest now later out out′ e (w .next) (l .pending) (w .left);
-        count = omega (arith, w .next, length-append now later);
-      }
-
-  pub left-end : rest ≡ [] → Wrote from text out₀ out at
-  left-end e =
-      let c : at + 0 ≡ from + length text = rw e at (l .count) in
-      record { next = omega arith; left = pending-end out₀ (write from text out₀) at out (rw e at (l .pending)) }

@@ -1,65 +1,21 @@
--- The walk over a section's slots with a cursor into each sheet: the record at the cursor is the one with the slot,
--- wherever it stands, and what is still to be written makes what was to be written. Assumes nothing.
+-- The walk over a section's slots with a cursor into each sheet: what is still to be written makes what was to be
+-- written. Assumes nothing.
 use Prim.Native.Nat.{ℕ, suc, _+_, _-_, _≤_, _<_}
-use mathlib.Core.Path.{_≡_, refl, ap, _∙_}
+use mathlib.Core.Path.{_≡_}
 use mathlib.Core.List.{List, _++_}
 use native.Mathlib.Omega.{arith}
 use native.Mathlib.Nat.{sub-zero}
-use native.Mathlib.Decide.{decLt, ℕ-discrete}
-use lib.ListN.{length, take, drop, length-drop, length-take}
+use lib.ListN.{length, drop}
 use Rattle.buffer.specs.Room.{Wrote}
-use Rattle.records.specs.Sections.{mostOf, recordSize, slotOf}
-use Rattle.records.specs.Records.{recordsIn, find, front, after}
+use Rattle.records.specs.Sections.{mostOf}
+use Rattle.records.specs.Records.{recordsIn, find, front}
 use Rattle.sheet.specs.Parsed.{Ordered}
-use Rattle.records.proofs.Records.{cursor-next, front-short, front-here, front-other}
-use Rattle.sheet.proofs.Found.{front-find, after-find, after-ordered}
+use Rattle.sheet.proofs.Cursors.{Cursor, cursor-start, cursor-finds, cursor-turn}
 use Rattle.notice.specs.Text.{renderAll}
 use Rattle.notice.specs.Findings.{slotLines}
 use Rattle.notice.specs.Notice.{linesFrom}
-use Rattle.notice.proofs.Lines.{renderAll-append, Left, left-start, left-room, left-turn, left-end}
-
--- ---- the cursor
-
-pub record Cursor (k slot at : ℕ) (part : List ℕ) : Type 0 where
-  pub within : at ≤ length part
-  pub ordered : Ordered k slot (recordsIn k (drop at part))
-  pub found : (t : ℕ) → slot ≤ t → find t (recordsIn k (drop at part)) ≡ find t (recordsIn k part)
-
-pub cursor-start : (k : ℕ) (part : List ℕ) → Ordered k 0 (recordsIn k part) → Cursor k 0 0 part
-cursor-start k part o = record { within = omega arith; ordered = o; found = λ t h. refl }
-
--- the record at the cursor is within the part
-front-fits : (k slot : ℕ) (rest : List ℕ) → length (front slot (recordsIn k rest)) ≤ length rest
-front-fits k slot rest = go (decLt (length (take (recordSize k) rest)) (recordSize k))
-  where
-    go : Dec (length (take (recordSize k) rest) < recordSize k) → length (front slot (recordsIn k rest)) ≤ length rest
-    go (yes h) = rw (front-short k rest slot h) (omega arith)
-    go (no h) =
-        let w : recordSize k ≤ length (take (recordSize k) rest) = omega arith in
-        elim (ℕ-discrete (slotOf (take (recordSize k) rest)) slot) [
-          | yes q ↦ rw (front-here k rest slot w q) (omega (arith, length-take (recordSize k) rest))
-          | no q ↦ rw (front-other k rest slot w q) (omega arith)
-        ]
-
-module _ (k slot at : ℕ) (part r : List ℕ) (c : Cursor k slot at part) (e : r ≡ front slot (recordsIn k (drop at part))) where
-  pub cursor-finds : r ≡ find slot (recordsIn k part)
-  cursor-finds = e ∙ front-find slot (c .ordered) ∙ c .found slot (omega arith)
-
-  pub cursor-fits : at + length r ≤ length part
-  cursor-fits =
-      let h = c .within in
-      omega (arith, ap length e, front-fits k slot (drop at part), length-drop at part)
-
-  pub cursor-turn : Cursor k (slot + 1) (at + length r) part
-  cursor-turn =
-      let n : recordsIn k (drop (at + length r) part) ≡ after slot (recordsIn k (drop at part)) = cursor-next k at part slot r e in
-      record {
-        within = cursor-fits;
-        ordered = rw n (after-ordered slot (c .ordered));
-        found = λ t h. rw n (after-find slot t (recordsIn k (drop at part)) (omega arith) ∙ c .found t (omega arith));
-      }
-
--- ---- the loop
+use Rattle.buffer.proofs.Left.{Left, left-start, left-room, left-turn, left-end}
+use Rattle.notice.proofs.Lines.{renderAll-append}
 
 -- the text of the slots from `slot` on
 abbrev pub textFrom : (k slot : ℕ) (old new : List ℕ) → List ℕ

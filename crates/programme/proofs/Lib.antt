@@ -1,0 +1,7 @@
+pub mod Order
+pub mod Rows
+pub mod Lookup
+pub mod Rules
+pub mod Looked
+pub mod Filling
+pub mod Theorems

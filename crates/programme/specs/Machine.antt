@@ -1,8 +1,8 @@
 -- What a programme answers when its chain words are run in the model.
-use Prim.Native.Nat.{ℕ, _-_}
+use Prim.Native.Nat.{ℕ, _-_, _<_}
 use mathlib.Core.Bool.{Bool, cond}
+use mathlib.Core.List.{List, [], _∷_}
 use mathlib.Core.Path.{_≡_}
-use Prim.Native.Nat.{_<_}
 use lib.Dec.{eqb, ltb}
 use lib.ListN.{getD}
 use Rattle.lines.specs.Line.{fromLines}
@@ -11,7 +11,11 @@ use Rattle.term.specs.Model.{runTerm}
 use Rattle.range.specs.Model.{runRange}
 use Rattle.edge.specs.Model.{runEdge}
 use Rattle.sum.specs.Model.{runSum}
-use Rattle.kinds.specs.Table.{TERMS, RANGES, EDGES, SUMS, STATES}
+use Rattle.lut.specs.declared.Input.{Input}
+use Rattle.lut.specs.declared.Input.the-variants.{Nothing, Sample, Samples, Sources}
+use Rattle.kinds.specs.Table.{TERMS, RANGES, EDGES, SUMS, STATES, showsOf}
+use Rattle.records.specs.Sections.{descriptionOf}
+use Rattle.sheet.specs.Parsed.{recordWith}
 use Rattle.programme.specs.Programme.{Programme}
 
 -- what is asked of a programme: the sixteen sources on an earlier word and a sample, whether the sum in a slot matches
@@ -37,6 +41,28 @@ throughWords p =
           (λ i. answerHit (runEdge (p EDGES i) earlier sample));
       matches = λ slot sources. eqb (answerHit (runSum (p SUMS slot) sources)) 1;
       word = λ state. getD (p STATES state) 0 1;
+    }
+
+-- what a record of section k shows on an input, by the plain rules; this number where there is no record [G16, B7, D4.1]
+unfoldable pub shownBy : (k : ℕ) (r : List ℕ) → Input → (missing : ℕ) → ℕ
+shownBy k [] input missing = missing
+shownBy k (b ∷ bs) input missing = showsOf k (descriptionOf (b ∷ bs)) input
+
+-- what a sheet shows on an input in a slot of section k, by the plain rules [G9, G16, D4.1]
+abbrev pub shown : (sheet : List ℕ) (k slot : ℕ) → Input → (missing : ℕ) → ℕ
+shown s k slot input missing = shownBy k (recordWith k slot s) input missing
+
+-- a sheet by the plain rules: each term, range and edge, each sum and each state as what the sheet has in its slot;
+-- theorem through-words-by-rules has it that this is the sheet's programme run through its chain words [D4.1]
+unfoldable pub byRules : (sheet : List ℕ) → Machine
+byRules s =
+    record {
+      sources =
+          λ earlier sample.
+          sourcesBy (λ i. shown s TERMS i (Sample sample) 0) (λ i. shown s RANGES i (Sample sample) 0)
+          (λ i. shown s EDGES i (Samples earlier sample) 0);
+      matches = λ slot sources. eqb (shown s SUMS slot (Sources sources) 0) 1;
+      word = λ state. shown s STATES state Nothing 1;
     }
 
 -- two machines answer alike on every sample, for the 48 sums and for the 16 states [R2, R4, R5]

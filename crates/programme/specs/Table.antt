@@ -6,65 +6,22 @@ use mathlib.Core.Bool.{Bool, _&&_}
 use mathlib.Core.List.{List, [], _∷_, _++_}
 use lib.Bits.{bitAnd}
 use lib.Dec.{eqb, leb}
-use lib.ListN.{getD, length}
-use Rattle.lines.specs.Gather.{scattered}
+use lib.ListN.{getD}
 use Rattle.lut.specs.Table.{oneIf}
-use Rattle.term.specs.declared.Pattern.{Pattern}
-use Rattle.term.specs.Description as term
-use Rattle.range.specs.declared.Range.{Range}
-use Rattle.range.specs.Description as range
-use Rattle.edge.specs.declared.Edge.{Edge}
-use Rattle.edge.specs.Description as edge
 use Rattle.edge.specs.Rule.{edgeHit}
 use Rattle.sum.specs.Model.{sumHit}
 use Rattle.buffer.specs.Room.{Reply, unless}
-use Rattle.kinds.specs.Table.{sections, mostOf, wordsOf, SUMS, STATES}
+use Rattle.kinds.specs.Table.{sections, mostOf, entryOf, missingOf}
 use Rattle.records.specs.Sections.{descriptionOf}
 use Rattle.records.specs.Records.{find}
 use Rattle.sheet.specs.Reading.{verdict}
 use Rattle.sheet.specs.Parsed.{parse}
 use Rattle.programme.specs.Machine.{Machine, sourcesBy}
 
--- what each section has in the table: the entry of a description, and that of a slot without record, which never hits
--- and never matches [R11]
-pub record Entry : Type 0 where
-  pub of : List ℕ → List ℕ
-  pub missing : List ℕ
-
--- a pattern: the target cut to the mask, and the mask [R11]
-abbrev pub patternEntry : Pattern → List ℕ
-patternEntry p = bitAnd (p .target) (p .mask) ∷ p .mask ∷ []
-
--- a range: its bounds, each put on the masked lines, and the mask [R11]
-abbrev pub rangeEntry : Range → List ℕ
-rangeEntry r = scattered 32 (r .lower) (r .mask) ∷ scattered 32 (r .upper) (r .mask) ∷ r .mask ∷ []
-
--- an edge: rise, fall and neither [R11]
-abbrev pub edgeEntry : Edge → List ℕ
-edgeEntry e = e .rise ∷ e .fall ∷ e .neither ∷ []
-
--- THE ENTRIES, by section number; those of sums and states are their words [R11]
-abbrev pub entries : List Entry
-entries =
-    record { of = λ d. patternEntry (term.fromBytes d); missing = 1 ∷ 0 ∷ [] }
-    ∷ record { of = λ d. rangeEntry (range.fromBytes d); missing = 1 ∷ 0 ∷ 0 ∷ [] }
-    ∷ record { of = λ d. edgeEntry (edge.fromBytes d); missing = 0 ∷ 0 ∷ 0 ∷ [] }
-    ∷ record { of = wordsOf SUMS; missing = 0 ∷ 0 ∷ 0 ∷ 0 ∷ 0 ∷ 0 ∷ [] }
-    ∷ record { of = wordsOf STATES; missing = 1 ∷ [] }
-    ∷ []
-
--- the row of section k; an empty one for a section that no sheet has [R11, B4]
-unfoldable pub entryRow : ℕ → Entry
-entryRow k = getD entries k (record { of = λ d. []; missing = [] })
-
--- how many numbers an entry of section k has: 2, 3, 3, 6 and 1 [R11]
-unfoldable pub entrySize : ℕ → ℕ
-entrySize k = length (entryRow k .missing)
-
 -- the entry of a record of section k, and that of no record [R11, B7]
 unfoldable pub entryFor : (k : ℕ) (r : List ℕ) → List ℕ
-entryFor k [] = entryRow k .missing
-entryFor k (b ∷ bs) = entryRow k .of (descriptionOf (b ∷ bs))
+entryFor k [] = missingOf k
+entryFor k (b ∷ bs) = entryOf k (descriptionOf (b ∷ bs))
 
 -- the entries of n slots of section k from `slot` on, of these records [R11]
 unfoldable pub entriesFrom : (n slot k : ℕ) (rs : List (List ℕ)) → List ℕ

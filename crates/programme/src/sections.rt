@@ -10,7 +10,6 @@ ghost use Rattle.sheet.specs.Reading.{verdict};
 ghost use Rattle.sheet.specs.Parts.{judgedOf};
 ghost use Rattle.sheet.specs.Parsed.{parse, Ordered};
 ghost use Rattle.programme.specs.Table.{entriesFrom, tableOf};
-use crate::entries::entry_size;
 use crate::entries::put_slot;
 use kinds::SECTIONS;
 use sheet::Judged;
@@ -21,8 +20,9 @@ fn put_section(out: &mut [u32], from: usize, section: usize, part: &[u8]) -> usi
     requires { ⌜ Ordered section 0 (recordsIn section (now part)) ⌝ }
     ensures { λ r. ⌜ Wrote from (entriesFrom (mostOf section) 0 section (recordsIn section (now (part .entry)))) (now (out .entry)) (now (out .exit)) r ⌝ }
 {
-    let most = records::most(section);
-    let step = entry_size(section);
+    let row = kinds::row_of(section);
+    let most = row.most;
+    let step = row.entry;
     let mut at = from;
     let mut i: usize = 0;
     let mut slot: usize = 0;
@@ -45,7 +45,10 @@ pub(crate) fn put_sections(out: &mut [u32], sheet: &[u8], found: Judged) -> usiz
     let mut at: usize = 0;
     let mut section: usize = 0;
     while section < SECTIONS {
-        let part = peek::prefix(peek::suffix(sheet, found.starts[section]), found.sizes[section]);
+        let part = peek::prefix(
+            peek::suffix(sheet, found.starts[section]),
+            found.sizes[section],
+        );
         at = put_section(out, at, section, part);
         section += 1;
     }

@@ -14,3 +14,6 @@ pub mod Places
 pub mod Theorems
 pub mod Laid
 pub mod Numbered
+pub mod Cursors
+pub mod Cut
+pub mod Slots

@@ -5,7 +5,7 @@ use mathlib.Core.Bool.{Bool, true, _&&_, and-assoc, Bool·beq}
 use mathlib.Core.List.{List, [], _∷_}
 use Prim.Native.Nat.{ℕ, _+_, _/_, _^_, _<_}
 use native.Mathlib.Omega.{arith}
-use lib.Bits.{bitAnd, bitXor, and-lt, xor-lt}
+use lib.Bits.{bitAnd, bitXor, and-lt, and-le-r, xor-lt}
 use lib.Dec.{eqb}
 use lib.ListN.{getD}
 use Rattle.lines.specs.Line.{line}
@@ -41,16 +41,15 @@ lines-formula k t m s ht hm hs =
     ∙ lines-cong _&&_ true k _ _ (λ i h. rw (line-and (bitXor s t) m i, line-xor s t i) (line-formula t m s i))
 
 -- the sample and the target agree once both are cut to the mask
-pub lines-masked : (k t m s : ℕ) → t < 2 ^ k → m < 2 ^ k → s < 2 ^ k → eqb (bitAnd s m) (bitAnd t m) ≡ linesHit k t m s
-lines-masked k t m s ht hm hs =
-    same-lines k (bitAnd s m) (bitAnd t m) (and-lt k s m hs hm) (and-lt k t m ht hm)
+pub lines-masked : (k t m s : ℕ) → m < 2 ^ k → eqb (bitAnd s m) (bitAnd t m) ≡ linesHit k t m s
+lines-masked k t m s hm =
+    same-lines k (bitAnd s m) (bitAnd t m) (omega (arith, and-le-r s m)) (omega (arith, and-le-r t m))
     ∙ lines-cong _&&_ true k _ _ (λ i h. rw (line-and s m i, line-and t m i) (line-masked t m s i))
 
-module _ (t m s : ℕ) (ht : t < 2 ^ 32) (hm : m < 2 ^ 32) (hs : s < 2 ^ 32) where
-  pub term-formula : eqb (bitAnd (bitXor s t) m) 0 ≡ termHit t m s
-  unfolding termHit
-  term-formula = lines-formula 32 t m s ht hm hs
+pub term-formula : (t m s : ℕ) → t < 2 ^ 32 → m < 2 ^ 32 → s < 2 ^ 32 → eqb (bitAnd (bitXor s t) m) 0 ≡ termHit t m s
+unfolding termHit
+term-formula t m s ht hm hs = lines-formula 32 t m s ht hm hs
 
-  pub term-masked : eqb (bitAnd s m) (bitAnd t m) ≡ termHit t m s
-  unfolding termHit
-  term-masked = lines-masked 32 t m s ht hm hs
+pub term-masked : (t m s : ℕ) → m < 2 ^ 32 → eqb (bitAnd s m) (bitAnd t m) ≡ termHit t m s
+unfolding termHit
+term-masked t m s hm = lines-masked 32 t m s hm

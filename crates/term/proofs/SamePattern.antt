@@ -70,10 +70,10 @@ not-self false e = let z : _≡_ {A = ℕ} 0 1 = cc in omega arith
 module _ (t₁ m₁ t₂ m₂ : ℕ) (ht₁ : t₁ < 2 ^ 32) (hm₁ : m₁ < 2 ^ 32) (ht₂ : t₂ < 2 ^ 32) (hm₂ : m₂ < 2 ^ 32) where
   -- hits, by the cut numbers
   from-cut : (s : ℕ) → s < 2 ^ 32 → eqb (bitAnd s m₁) (bitAnd t₁ m₁) ≡ eqb (bitAnd s m₂) (bitAnd t₂ m₂) → termHit t₁ m₁ s ≡ termHit t₂ m₂ s
-  from-cut s h e = sym (term-masked t₁ m₁ s ht₁ hm₁ h) ∙ e ∙ term-masked t₂ m₂ s ht₂ hm₂ h
+  from-cut s h e = sym (term-masked t₁ m₁ s hm₁) ∙ e ∙ term-masked t₂ m₂ s hm₂
 
   to-cut : (s : ℕ) → s < 2 ^ 32 → termHit t₁ m₁ s ≡ termHit t₂ m₂ s → eqb (bitAnd s m₁) (bitAnd t₁ m₁) ≡ eqb (bitAnd s m₂) (bitAnd t₂ m₂)
-  to-cut s h e = term-masked t₁ m₁ s ht₁ hm₁ h ∙ e ∙ sym (term-masked t₂ m₂ s ht₂ hm₂ h)
+  to-cut s h e = term-masked t₁ m₁ s hm₁ ∙ e ∙ sym (term-masked t₂ m₂ s hm₂)
 
   says-same : bitAnd t₁ m₁ ≡ bitAnd t₂ m₂ → m₁ ≡ m₂ → HitAlike (onSample (termHit t₁ m₁)) (onSample (termHit t₂ m₂))
   says-same e f = alike-on-samples _ _ (λ s h. from-cut s h (ap₂ eqb (ap (bitAnd s) f) e))

@@ -1,6 +1,6 @@
 // The calls for C and Rust, under their plain names; include/voltamar.h declares them and says each contract in words.
 // Promises: each answer, and all that is written through a pointer, equals a definition, for any input.
-// Rests on: sheet, compiler, reader, notice (sheets and streams), lines, term, range, edge, sum (rules and model), answers (handed over in numbers).
+// Rests on: sheet, compiler, reader, notice, bench (sheets, streams, samples), lines, term, range, edge, sum (rules and model), answers (handed over in numbers).
 ghost use mathlib.Core.Path.{_≡_};
 ghost use lib.ListN.{length};
 ghost use Rattle.buffer.specs.Verdict.{verdictNumber, verdictPlace, outcomeNumber, outcomePlace};
@@ -11,6 +11,8 @@ ghost use Rattle.compiler.specs.Stream.{compiled};
 ghost use Rattle.reader.specs.Back.{readBack};
 ghost use Rattle.reader.specs.Meaning.{ReadSays};
 ghost use Rattle.notice.specs.Notice.{noticeText, leftBy, noticedNumber, noticedWhich, noticedPlace};
+ghost use Rattle.bench.specs.Call.{benched, benchedLeft};
+ghost use Rattle.bench.specs.Handed.{runOf, handedBy, outcomeOf};
 ghost use Rattle.voltamar_c.specs.Noticing.{noticed};
 use answers::hand_noticed;
 use answers::hand_outcome;
@@ -81,4 +83,21 @@ pub extern "C" fn voltamar_notice(
     ensures { λ _. ⌜ now (out .exit) ≡ leftBy (noticed (now (old .entry)) (now (new .entry)) (length (now (out .entry)))) (noticeText (now (old .entry)) (now (new .entry))) (now (out .entry)) ⌝ }
 {
     hand_noticed(notice::notice(old, new, out), which, place)
+}
+
+// The samples that capture takes of a run, written at the start of `out`. The run is five words, which are read and, when done, written.
+#[no_mangle]
+pub extern "C" fn voltamar_bench(
+    sheet: &[u8],
+    samples: &[u32],
+    run: &mut [u32],
+    out: &mut [u32],
+    place: &mut usize,
+) -> u8
+    ensures { λ r. ⌜ r ≡ outcomeNumber (outcomeOf (benched (now (sheet .entry)) (now (samples .entry)) (runOf (now (run .entry))) (length (now (out .entry))))) ⌝ }
+    ensures { λ _. ⌜ now (place .exit) ≡ outcomePlace (outcomeOf (benched (now (sheet .entry)) (now (samples .entry)) (runOf (now (run .entry))) (length (now (out .entry))))) ⌝ }
+    ensures { λ _. ⌜ now (run .exit) ≡ handedBy (benched (now (sheet .entry)) (now (samples .entry)) (runOf (now (run .entry))) (length (now (out .entry)))) (now (run .entry)) ⌝ }
+    ensures { λ _. ⌜ now (out .exit) ≡ benchedLeft (now (sheet .entry)) (now (samples .entry)) (runOf (now (run .entry))) (now (out .entry)) ⌝ }
+{
+    hand_outcome(bench::bench_words(sheet, samples, run, out), place)
 }

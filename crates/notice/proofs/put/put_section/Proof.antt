@@ -6,7 +6,8 @@ use native.Mathlib.Omega.{arith}
 use denote.Ref.{now}
 use Rattle.records.specs.Sections.{mostOf}
 use Rattle.kinds.proofs.Rows.{most-byte}
-use Rattle.notice.proofs.Walk.{Walking, walking-start, walking-room, walking-turn, walking-end, cursor-fits}
+use Rattle.sheet.proofs.Cursors.{cursor-fits}
+use Rattle.notice.proofs.Walk.{Walking, walking-start, walking-room, walking-turn, walking-end}
 use borrow.Author.Needs.{needs}
 use Rattle.notice.proofs.put.put_section.Statement.{statement}
 use Rattle.notice.proofs.put.put_section.Tie as tie

@@ -3,7 +3,8 @@ use Prim.Native.Nat.{_-_}
 use native.Mathlib.Omega.{arith}
 use denote.Ref.{now}
 use Rattle.records.specs.Sections.{sections}
-use Rattle.notice.proofs.Across.{Cut, part-records, part-ordered, Going, going-start, going-room, going-turn, going-end}
+use Rattle.sheet.proofs.Cut.{Cut, part-records, part-ordered}
+use Rattle.notice.proofs.Across.{Going, going-start, going-room, going-turn, going-end}
 use borrow.Author.Needs.{needs}
 use Rattle.notice.proofs.put.put_sections.Statement.{statement}
 use Rattle.notice.proofs.put.put_sections.Tie as tie

@@ -1,0 +1,12 @@
+pub mod Asking
+pub mod Found
+pub mod Slots
+pub mod Pieces
+pub mod Standing
+pub mod Walking
+pub mod Calling
+pub mod Agreeing
+pub mod Succeeding
+pub mod Through
+pub mod Handing
+pub mod Theorems

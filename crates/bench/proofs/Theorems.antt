@@ -1,0 +1,163 @@
+-- What is promised of the bench, of what the call answers and of the words that it leaves. Assumes nothing.
+use Prim.Native.Nat.{ℕ, _+_, _-_, _≤_}
+use mathlib.Core.Path.{_≡_, refl, sym, ap, ap₂, _∙_}
+use mathlib.Core.Bool.{Bool, true, false, cond, not}
+use mathlib.Core.List.{List, [], _∷_, _++_}
+use native.Mathlib.Omega.{arith}
+use borrow.Author.Tests.{le-ltb}
+use lib.Dec.{ltb}
+use lib.ListN.{length, length-append, take}
+use Rattle.buffer.specs.declared.Verdict.the-variants.{Accepted}
+use Rattle.sheet.specs.Reading.{verdict}
+use Rattle.bench.specs.declared.Earlier.{Earlier}
+use Rattle.bench.specs.declared.Earlier.the-variants.{Nothing, Word}
+use Rattle.bench.specs.declared.Run.{Run}
+use Rattle.bench.specs.declared.Benched.{Benched}
+use Rattle.bench.specs.declared.Benched.the-variants.{Done, Refused}
+use Rattle.bench.specs.Run.{handedOn, taken, startAccepted, Subsequence}
+use Rattle.bench.specs.Call.{mostSamples, delivered, answered, unless, machineOf, benched, benchedLeft}
+use Rattle.bench.specs.Handed.{isRun, noRun, runOf, flagOf, wordsOf}
+use Rattle.bench.proofs.Pieces.{handed-pieces, taken-pieces, ended-hands-on, ended-takes-nothing, taken-subsequence}
+use Rattle.bench.proofs.Calling.{ended-delivered}
+use Rattle.bench.proofs.Standing.{handed-accepted}
+use Rattle.bench.proofs.Succeeding.{Did, accepts, sheet-accepted, bench-did, does, writes}
+
+-- ---- two pieces
+
+-- one call on all samples wrote n words and handed on `final`; the first piece, given the room out₁, and then the second
+-- do the same. Within one room, out, the second may be lent what the first left: its k words are the first of it, and
+-- n ≤ k + (length out - k) [D4.2]
+pub record InPieces (s xs ys : List ℕ) (r : Run) (out out₁ : List ℕ) (n : ℕ) (final : Run) : Type 0 where
+  pub k : ℕ
+  pub mid : Run
+  pub first : benched s xs r (length out₁) ≡ Done k mid
+  pub within : k ≤ n
+  pub second : (out₂ : List ℕ) → n ≤ k + length out₂ → benched s ys mid (length out₂) ≡ Done (n - k) final
+  pub written : (out₂ : List ℕ) → n ≤ k + length out₂
+      → take n (benchedLeft s (xs ++ ys) r out) ≡ take k (benchedLeft s xs r out₁) ++ take (n - k) (benchedLeft s ys mid out₂)
+
+-- the samples that are taken of two pieces
+both-taken : (s xs ys : List ℕ) (r : Run) → length (taken (machineOf s) r (xs ++ ys))
+    ≡ length (taken (machineOf s) r xs) + length (taken (machineOf s) (handedOn (machineOf s) r xs) ys)
+both-taken s xs ys r = ap length (taken-pieces (machineOf s) r xs ys) ∙ length-append (taken (machineOf s) r xs) _
+
+-- what one call does on all samples, two do on its pieces, wherever they are cut [D4.2]
+pub two-pieces : (s xs ys : List ℕ) (r : Run) (out : List ℕ) (n : ℕ) (final : Run) → benched s (xs ++ ys) r (length out) ≡ Done n final
+    → (out₁ : List ℕ) → n ≤ length out₁ → InPieces s xs ys r out out₁ n final
+two-pieces s xs ys r out n final e out₁ h =
+    let m = machineOf s in
+    let d = bench-did s (xs ++ ys) r (length out) n final e in
+    let a = sheet-accepted s (xs ++ ys) r (length out) n final e in
+    let mid = handedOn m r xs in
+    let k = length (taken m r xs) in
+    let few : length (xs ++ ys) ≡ length xs + length ys = length-append xs ys in
+    let most = d .few in
+    let all : n ≡ length (taken m r xs) + length (taken m (handedOn m r xs) ys) = d .count ∙ both-taken s xs ys r in
+    let one = does s xs r (length out₁) a (omega arith) (d .start) (omega arith) in
+    let two : (out₂ : List ℕ) → n ≤ length (taken m r xs) + length out₂ → benched s ys (handedOn m r xs) (length out₂) ≡ Done (n - length (taken m r xs)) final =
+    λ out₂ f.
+    let j : length (taken m (handedOn m r xs) ys) ≡ n - length (taken m r xs) = omega arith in
+    does s ys (handedOn m r xs) (length out₂) a (omega arith) (handed-accepted m r xs (d .start)) (omega arith)
+    ∙ ap₂ Done j (sym (d .run ∙ handed-pieces m r xs ys)) in
+    record {
+      k = k;
+      mid = mid;
+      first = one;
+      within = omega arith;
+      second = two;
+      written =
+          λ out₂ f.
+          writes s (xs ++ ys) r out n final e ∙ taken-pieces m r xs ys
+          ∙ sym (ap₂ (λ (u v : List ℕ). u ++ v) (writes s xs r out₁ k mid one) (writes s ys mid out₂ (n - k) final (two out₂ f)));
+    }
+
+-- and back: two calls, the second on the run that the first handed on, are one on all samples, where these are within the
+-- limit and there is room [D4.2]
+module _ (s xs ys : List ℕ) (r : Run) (out out₁ out₂ : List ℕ) (k j : ℕ) (mid final : Run)
+    (first : benched s xs r (length out₁) ≡ Done k mid) (second : benched s ys mid (length out₂) ≡ Done j final)
+    (few : length (xs ++ ys) ≤ mostSamples) (fits : k + j ≤ length out) where
+  pub one-call : benched s (xs ++ ys) r (length out) ≡ Done (k + j) final
+  one-call =
+      let m = machineOf s in
+      let d = bench-did s xs r (length out₁) k mid first in
+      let g = bench-did s ys mid (length out₂) j final second in
+      let last : final ≡ handedOn m r (xs ++ ys) = g .run ∙ ap (λ (q : Run). handedOn m q ys) (d .run) ∙ sym (handed-pieces m r xs ys) in
+      let more : j ≡ length (taken m (handedOn m r xs) ys) = g .count ∙ ap (λ (q : Run). length (taken m q ys)) (d .run) in
+      let count = d .count in
+      let all : length (taken m r (xs ++ ys)) ≡ k + j = both-taken s xs ys r ∙ omega arith in
+      does s (xs ++ ys) r (length out) (sheet-accepted s xs r (length out₁) k mid first) few (d .start) (omega arith) ∙ ap₂ Done all (sym last)
+
+  pub one-call-writes : take (k + j) (benchedLeft s (xs ++ ys) r out) ≡ take k (benchedLeft s xs r out₁) ++ take j (benchedLeft s ys mid out₂)
+  one-call-writes =
+      let m = machineOf s in
+      let d = bench-did s xs r (length out₁) k mid first in
+      writes s (xs ++ ys) r out (k + j) final one-call ∙ taken-pieces m r xs ys
+      ∙ sym (ap₂ (λ (u v : List ℕ). u ++ v) (writes s xs r out₁ k mid first)
+      (writes s ys mid out₂ j final second ∙ ap (λ (q : Run). taken m q ys) (d .run)))
+
+-- ---- the run that is handed on
+
+-- no call with the same sheet refuses it with 24 [D4.3]
+pub handed-on-accepted : (s xs : List ℕ) (r : Run) (room n : ℕ) (r′ : Run) → benched s xs r room ≡ Done n r′
+    → (ys : List ℕ) (room′ place : ℕ) → benched s ys r′ room′ ≡ Refused 24 place → ⊥
+unfolding benched answered delivered
+handed-on-accepted s xs r room n r′ e ys room′ place f =
+    let m = machineOf s in
+    let d = bench-did s xs r room n r′ e in
+    let ok : startAccepted m r′ ≡ true = ap (startAccepted m) (d .run) ∙ handed-accepted m r xs (d .start) in
+    let a = accepts s (answered m ys r′ room′) (sheet-accepted s xs r room n r′ e) in
+    never (ltb mostSamples (length ys)) (ltb room′ (length (taken m r′ ys))) (length (taken m r′ ys)) (handedOn m r′ ys)
+    (sym (a ∙ ap (λ (b : Bool). cond (ltb mostSamples (length ys)) (Refused 20 mostSamples) (cond (not b) (Refused 24 0) (delivered m ys r′ room′))) ok) ∙ f)
+  where
+    never : (a c : Bool) (t : ℕ) (q : Run) → cond a (Refused 20 mostSamples) (cond c (Refused 12 t) (Done t q)) ≡ Refused 24 place → ⊥
+    never true c t q g = let z : _≡_ {A = ℕ} 20 24 = cc in absurd (omega arith)
+    never false true t q g = let z : _≡_ {A = ℕ} 12 24 = cc in absurd (omega arith)
+    never false false t q g = let z : _≡_ {A = ℕ} 0 1 = cc in absurd (omega arith)
+
+-- of a run that has ended nothing is taken, and it is handed on as it was [D4.4]
+pub ended-stays : (s xs : List ℕ) (r : Run) (room n : ℕ) (r′ : Run) → benched s xs r room ≡ Done n r′ → r .ended ≡ true → (n ≡ 0) × (r′ ≡ r)
+ended-stays s xs r room n r′ e h =
+    let d = bench-did s xs r room n r′ e in (
+      d .count ∙ ap length (ended-takes-nothing (machineOf s) r xs h),
+      d .run ∙ ended-hands-on (machineOf s) r xs h,
+    )
+
+-- such a run is never refused with 12 [D4.4]
+pub ended-never-short : (s xs : List ℕ) (r : Run) → verdict s ≡ Accepted → r .ended ≡ true → (room place : ℕ) → benched s xs r room ≡ Refused 12 place → ⊥
+unfolding benched answered
+ended-never-short s xs r a h room place f =
+    let m = machineOf s in
+    never (ltb mostSamples (length xs)) (startAccepted m r)
+    (ap (λ (b : Benched). cond (ltb mostSamples (length xs)) (Refused 20 mostSamples) (cond (not (startAccepted m r)) (Refused 24 0) b)) (sym (ended-delivered m xs r room h))
+    ∙ sym (accepts s (answered m xs r room) a) ∙ f)
+  where
+    never : (b c : Bool) → cond b (Refused 20 mostSamples) (cond (not c) (Refused 24 0) (Done 0 r)) ≡ Refused 12 place → ⊥
+    never true c g = let z : _≡_ {A = ℕ} 20 12 = cc in absurd (omega arith)
+    never false false g = let z : _≡_ {A = ℕ} 24 12 = cc in absurd (omega arith)
+    never false true g = let z : _≡_ {A = ℕ} 0 1 = cc in absurd (omega arith)
+
+-- ---- what is written
+
+-- the words written are a subsequence of the samples [D4.5]
+pub written-of-the-samples : (s xs : List ℕ) (r : Run) (out : List ℕ) (n : ℕ) (r′ : Run) → benched s xs r (length out) ≡ Done n r′
+    → Subsequence (take n (benchedLeft s xs r out)) xs
+written-of-the-samples s xs r out n r′ e = rw (writes s xs r out n r′ e) (taken-subsequence (machineOf s) r xs)
+
+-- ---- a run in five words
+
+-- a run's words are read as that run [A13]
+pub words-of-a-run : (r : Run) → runOf (wordsOf r) ≡ r
+unfolding runOf isRun
+words-of-a-run r = go (r .earlier) (r .ended)
+  where
+    go : (e : Earlier) (b : Bool) → runOf (wordsOf (record { state = r .state; count = r .count; earlier = e; ended = b })) ≡ record { state = r .state; count = r .count; earlier = e; ended = b }
+    go Nothing true = refl
+    go Nothing false = refl
+    go (Word w) true = refl
+    go (Word w) false = refl
+
+-- words that are no run are refused with 24, in its turn [A13, F24, O8]
+pub no-run-refused : (s xs ws : List ℕ) (room : ℕ) → verdict s ≡ Accepted → length xs ≤ mostSamples → isRun ws ≡ false
+    → benched s xs (runOf ws) room ≡ Refused 24 0
+unfolding benched answered runOf startAccepted
+no-run-refused s xs ws room a few none = accepts s _ a ∙ rw (none, le-ltb mostSamples (length xs) few)

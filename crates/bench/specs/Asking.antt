@@ -1,0 +1,52 @@
+-- How the body asks a table: a sample's sources from the highest line down, and its sums at addresses that are made once.
+use Prim.Native.Nat.{ℕ, _+_, _-_, _*_, _/_, _%_}
+use mathlib.Core.Bool.{Bool, cond}
+use mathlib.Core.List.{List}
+use lib.Dec.{eqb, ltb}
+use lib.ListN.{getD}
+use Rattle.lines.specs.Line.{line, fromLines}
+use Rattle.lut.specs.Table.{answerAt, high, low, oneIf}
+use Rattle.sum.specs.Model.{firstPairs, lastPairs}
+use Rattle.programme.specs.Table.{termAt, rangeAt, edgeAt}
+
+-- source i on an earlier word and a sample, 1 or 0 [M6, R2, R11]
+unfoldable pub sourceAt : (table : List ℕ) (earlier sample i : ℕ) → ℕ
+sourceAt t e s i =
+    cond (ltb i 10) (oneIf (termAt t s i)) (cond (ltb i 12) (oneIf (rangeAt t s (i - 10))) (cond (ltb i 14) (oneIf (edgeAt t e s (i - 12))) 0))
+
+-- the sources from i to 15, source i at bit 0; computed [M6, B6]
+abbrev pub sourcesFrom : (table : List ℕ) (earlier sample i : ℕ) → ℕ
+sourcesFrom t e s i = fromLines (16 - i) (λ j. sourceAt t e s (j + i))
+
+-- where a pair's table is asked [M7]
+unfoldable pub addressAt : (sources a b : ℕ) → ℕ
+addressAt s a b = 3 * line s a + 12 * line s b
+
+-- the addresses of four pairs, four bits each, the first lowest; computed [M7, B6]
+abbrev pub fourOf : (sources : ℕ) (pairs : List ℕ) → ℕ
+fourOf s pairs =
+    addressAt s (getD pairs 0 0) (getD pairs 1 0)
+    + 16 * (addressAt s (getD pairs 2 0) (getD pairs 3 0)
+    + 16 * (addressAt s (getD pairs 4 0) (getD pairs 5 0) + 16 * addressAt s (getD pairs 6 0) (getD pairs 7 0)))
+
+-- those of the first four pairs in the low half, of the last four in the high half; every sum is asked at them; computed
+-- [M6, M7, B6]
+unfoldable pub addressesOf : (sources : ℕ) → ℕ
+addressesOf s = fourOf s firstPairs + 65536 * fourOf s lastPairs
+
+-- the inputs of a mid: the four pairs whose tables two words have, asked at the lowest four addresses [M8]
+unfoldable pub inputsAt : (first second addresses : ℕ) → ℕ
+inputsAt v w x =
+    answerAt (low v) (x % 16)
+    + 2 * answerAt (high v) (x / 16 % 16)
+    + 4 * answerAt (low w) (x / 256 % 16)
+    + 8 * answerAt (high w) (x / 4096 % 16)
+
+-- whether a sum matches that is asked at the addresses; computed [M8, R4, B6]
+unfoldable pub sumAsked : List ℕ → (addresses : ℕ) → Bool
+sumAsked w x =
+    eqb
+    (answerAt (low (getD w 0 0))
+    (answerAt (low (getD w 1 0)) (inputsAt (getD w 5 0) (getD w 4 0) x)
+    + 2 * answerAt (high (getD w 1 0)) (inputsAt (getD w 3 0) (getD w 2 0) (x / 65536))))
+    1

@@ -1,0 +1,133 @@
+// The call: refusals in their order, then the walk.
+ghost use mathlib.Core.Path.{_≡_};
+ghost use lib.ListN.{length};
+ghost use Rattle.programme.specs.Table.{tableLength, plain};
+ghost use Rattle.bench.specs.Run.{fresh, startAccepted, earlierOf, taken};
+ghost use Rattle.bench.specs.Call.{benched, benchedLeft};
+ghost use Rattle.bench.specs.Walk.{Starts, NeededIn, Delivers, Answers, runFrom};
+use crate::BAD_RUN;
+use crate::Benched;
+use crate::Earlier;
+use crate::MOST_SAMPLES;
+use crate::Run;
+use crate::TOO_MANY_SAMPLES;
+use crate::moves::number_of;
+use crate::moves::word_of;
+use crate::walk::walk;
+use buffer::Outcome;
+
+// The run to begin with.
+pub fn fresh() -> Run
+    ensures { λ r. ⌜ r ≡ fresh ⌝ }
+{
+    Run {
+        state: 0,
+        count: 0,
+        earlier: Earlier::Nothing,
+        ended: false,
+    }
+}
+
+// Whether a run may be handed in: state 0 to 15, and a count below its number.
+fn start_accepted(table: &[u32], run: Run) -> bool
+    requires { ⌜ length (now table) ≡ tableLength ⌝ }
+    ensures { λ r. ⌜ r ≡ startAccepted (plain (now (table .entry))) run ⌝ }
+{
+    if run.state < 16 {
+        return run.count < number_of(word_of(table, run.state));
+    }
+    false
+}
+
+// The earlier word of the first sample: what was handed in, or the sample itself.
+fn earlier_of(earlier: Earlier, sample: u32) -> u32
+    ensures { λ r. ⌜ r ≡ earlierOf earlier sample ⌝ }
+{
+    match earlier {
+        Earlier::Nothing => sample,
+        Earlier::Word(w) => w,
+    }
+}
+
+// How many words the taken samples need, or 0 where there is room for all samples.
+fn words_needed(
+    table: &[u32],
+    samples: &[u32],
+    state: u32,
+    count: u32,
+    earlier: u32,
+    room: usize,
+) -> usize
+    requires { ⌜ Starts (now table) (now samples) state count ⌝ }
+    ensures { λ r. ⌜ NeededIn room (length (taken (plain (now (table .entry))) (runFrom state count earlier) (now (samples .entry)))) r ⌝ }
+{
+    if samples.len() <= room {
+        return 0;
+    }
+    let mut none = [0u32; 1];
+    let walked = walk(table, samples, state, count, earlier, &mut none);
+    walked.taken
+}
+
+// The walk, once for all where there is room for all samples; else what it needs is counted first, so that a refusal
+// has written nothing.
+fn deliver(
+    table: &[u32],
+    samples: &[u32],
+    state: u32,
+    count: u32,
+    earlier: u32,
+    out: &mut [u32],
+) -> Benched
+    requires { ⌜ Starts (now table) (now samples) state count ⌝ }
+    ensures { λ r. ⌜ Delivers (plain (now (table .entry))) (now (samples .entry)) (runFrom state count earlier) (now (out .entry)) r (now (out .exit)) ⌝ }
+{
+    let needed = words_needed(table, samples, state, count, earlier, out.len());
+    if out.len() < needed {
+        return Benched::Refused(buffer::OUTPUT_TOO_SHORT, needed);
+    }
+    let w = walk(table, samples, state, count, earlier, out);
+    Benched::Done(
+        w.taken,
+        Run {
+            state: w.state,
+            count: w.count,
+            earlier: Earlier::Word(w.earlier),
+            ended: w.ended,
+        },
+    )
+}
+
+// The call over a table.
+pub(crate) fn bench_table(table: &[u32], samples: &[u32], run: Run, out: &mut [u32]) -> Benched
+    requires { ⌜ length (now table) ≡ tableLength ⌝ }
+    ensures { λ r. ⌜ Answers (plain (now (table .entry))) (now (samples .entry)) run (now (out .entry)) r (now (out .exit)) ⌝ }
+{
+    if MOST_SAMPLES < samples.len() {
+        return Benched::Refused(TOO_MANY_SAMPLES, MOST_SAMPLES);
+    }
+    if !start_accepted(table, run) {
+        return Benched::Refused(BAD_RUN, 0);
+    }
+    if run.ended {
+        return Benched::Done(0, run);
+    }
+    if samples.len() == 0 {
+        return Benched::Done(0, run);
+    }
+    let before = run.earlier;
+    let first = earlier_of(before, samples[0]);
+    deliver(table, samples, run.state, run.count, first, out)
+}
+
+// The call on a sheet: its table is made once, and the samples are run over it.
+pub fn bench(sheet: &[u8], samples: &[u32], run: Run, out: &mut [u32]) -> Benched
+    ensures { λ r. ⌜ r ≡ benched (now (sheet .entry)) (now (samples .entry)) run (length (now (out .entry))) ⌝ }
+    ensures { λ _. ⌜ now (out .exit) ≡ benchedLeft (now (sheet .entry)) (now (samples .entry)) run (now (out .entry)) ⌝ }
+{
+    let mut table = [0u32; programme::TABLE_LENGTH];
+    match programme::prepare(sheet, &mut table) {
+        Outcome::Refused(number, place) => Benched::Refused(number, place),
+        Outcome::Done(_) => bench_table(&table, samples, run, out),
+    }
+}

@@ -1,0 +1,71 @@
+// Whether a sum matches, by its six words in the table, asked at the addresses that the sources give.
+ghost use mathlib.Core.Path.{_≡_};
+ghost use Prim.Native.Nat.{_+_, _%_, _≤_, _<_};
+ghost use lib.ListN.{length};
+ghost use Rattle.lut.specs.Table.{answerAt};
+ghost use Rattle.sum.specs.Model.{firstPairs, lastPairs};
+ghost use Rattle.bench.specs.Asking.{addressAt, fourOf, addressesOf, inputsAt, sumAsked};
+ghost use Rattle.programme.specs.Table.{sixAt};
+
+// Where the table of a pair is asked: source a drives its inputs 0 and 1, source b its inputs 2 and 3.
+fn address_at(sources: u32, a: u32, b: u32) -> u32
+    ensures { λ r. ⌜ (r ≡ addressAt sources a b) × (r < 16) ⌝ }
+{
+    3 * lines::line_value(sources, a) + 12 * lines::line_value(sources, b)
+}
+
+// The first four pairs: a b, c range 1, d edge 1, e timer 1.
+fn first_four(sources: u32) -> u32
+    ensures { λ r. ⌜ (r ≡ fourOf sources firstPairs) × (r < 65536) ⌝ }
+{
+    address_at(sources, 0, 1)
+        + 16
+            * (address_at(sources, 2, 10)
+                + 16 * (address_at(sources, 3, 12) + 16 * address_at(sources, 4, 14)))
+}
+
+// The last four: f g, h range 2, i edge 2, j timer 2.
+fn last_four(sources: u32) -> u32
+    ensures { λ r. ⌜ (r ≡ fourOf sources lastPairs) × (r < 65536) ⌝ }
+{
+    address_at(sources, 5, 6)
+        + 16
+            * (address_at(sources, 7, 11)
+                + 16 * (address_at(sources, 8, 13) + 16 * address_at(sources, 9, 15)))
+}
+
+// All eight addresses of a sample's sources.
+pub(crate) fn addresses_of(sources: u32) -> u32
+    ensures { λ r. ⌜ r ≡ addressesOf sources ⌝ }
+{
+    first_four(sources) + 65536 * last_four(sources)
+}
+
+fn answer_in(table: u32, addresses: u32) -> u32
+    ensures { λ r. ⌜ (r ≡ answerAt table (addresses % 16)) × (r < 2) ⌝ }
+{
+    lut::answer_at(table, addresses % 16)
+}
+
+// The inputs of a mid table: the answers of four pairs, whose tables are the two words' halves.
+fn inputs_at(first: u32, second: u32, addresses: u32) -> u32
+    ensures { λ r. ⌜ (r ≡ inputsAt first second addresses) × (r < 16) ⌝ }
+{
+    answer_in(first % 65536, addresses)
+        + 2 * answer_in(first / 65536, addresses / 16)
+        + 4 * answer_in(second % 65536, addresses / 256)
+        + 8 * answer_in(second / 65536, addresses / 4096)
+}
+
+// The sum whose words begin at an index of the table.
+pub(crate) fn sum_at(table: &[u32], at: usize, addresses: u32) -> bool
+    requires { ⌜ at + 6 ≤ length (now table) ⌝ }
+    ensures { λ r. ⌜ r ≡ sumAsked (sixAt (now (table .entry)) at) addresses ⌝ }
+{
+    let first = inputs_at(table[at + 5], table[at + 4], addresses);
+    let last = inputs_at(table[at + 3], table[at + 2], addresses / 65536);
+    let mids = table[at + 1];
+    let mid1 = lut::answer_at(mids % 65536, first);
+    let mid2 = lut::answer_at(mids / 65536, last);
+    lut::answer_at(table[at] % 65536, mid1 + 2 * mid2) == 1
+}
