@@ -90,8 +90,8 @@ make_files() {
     make_samples
 }
 
-# A word of samples is a letter, two digits and a line feed, so that line 0 is the letter's lowest bit. The sheet `open` takes the
-# words in which it is 1: those with A, C, E.
+# A word of samples is a letter, two digits and a line feed, so that line 0 is the letter's lowest bit. The sheet `open`
+# takes the words in which it is 1: those with A, C, E.
 make_samples() {
     printf '\001\000DOOR    \001\000\000\000\001\000\000\000\000\000\001\002S0 CAPT \010\000\000\000\000\000\000\000\004\000\004\000' >open
     head -c 5 /dev/zero >five

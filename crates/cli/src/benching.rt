@@ -1,4 +1,5 @@
-// `bench`: a sheet's programme over the samples of a file, from a fresh run; what capture takes is written in the file's own form.
+// `bench`: a sheet's programme over the samples of a file, from a fresh run. What capture takes is written in the form
+// that the file has.
 use crate::SHEET_BUFFER;
 use bench::Benched;
 use bench::MOST_SAMPLES;
@@ -36,8 +37,8 @@ pub(crate) fn bench(line: Line, out: i32, err: i32) -> u8 {
     )
 }
 
-// A part of a word at the end is run as a word, so that a file of more bytes than fit has too many samples. It is complained of where
-// nothing is refused.
+// A part of a word at the end is run as a word, so that a file of more bytes than fit has too many samples. It is
+// complained of where nothing is refused.
 fn judge(line: Line, sheet: &[u8], words: &[u8], out: i32, err: i32) -> u8 {
     let mut samples = [0u32; SAMPLES];
     put_samples(&mut samples, words);

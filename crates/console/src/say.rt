@@ -24,7 +24,8 @@ pub fn refused_stream(arg: usize, stream: &[u8], number: u8, place: usize, err: 
     refused(arg, number, place, peek::prefix(&detail, length), err)
 }
 
-// The file that argument `arg` names was refused, and `detail` says what stands there. The line is built whole, then printed.
+// The file that argument `arg` names was refused, and `detail` says what stands there. The line is built whole, then
+// printed.
 pub fn refused(arg: usize, number: u8, place: usize, detail: &[u8], err: i32) -> u8 {
     let mut file = io::buffer();
     let length = put_name(&mut file, arg);
