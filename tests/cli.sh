@@ -87,6 +87,24 @@ make_files() {
     head -c 9 /dev/zero | tr '\0' '\377' >noise
     { printf '\236\040\000\000\000'; for _ in 1 2 3 4; do printf '\237\000\000\000\000'; done; } >words
     long=$(head -c 5000 /dev/zero | tr '\0' x)
+    make_samples
+}
+
+# A word of samples is a letter, two digits and a line feed, so that line 0 is the letter's lowest bit. The sheet `open`
+# takes the words in which it is 1: those with A, C, E.
+make_samples() {
+    printf '\001\000DOOR    \001\000\000\000\001\000\000\000\000\000\001\002S0 CAPT \010\000\000\000\000\000\000\000\004\000\004\000' >open
+    head -c 5 /dev/zero >five
+    printf '@00\nA01\nB02\nC03\nD04\n' >samples
+    printf 'A01\nC03\n' >taken
+    { yes @00 | head -n 4095; echo A95; } >most
+    echo A95 >taken95
+    { cat most; printf x; } >over
+    { cat most samples; } >further
+    { cat samples; printf E; } >part1
+    { cat samples; printf E0; } >part2
+    { cat samples; printf E05; } >part3
+    printf E05 >lone
 }
 
 samples() {
@@ -101,6 +119,7 @@ samples() {
     gives "$examples/old-new.notice" notice old.sheet new.sheet
     says 'TERM 00 NAME\nTERM 01 ALTR 00000004\nTERM 02 NEW\nRANG 00 GONE\n' notice old.sheet new.sheet
     gives "$examples/lift-revised.notice" notice lift.sheet lift-revised.sheet
+    gives "$examples/lift.taken" bench lift.sheet "$examples/lift.words"
     # the table of crates/cli_cases runs on the same samples
     for name in old.sheet new.sheet lift.sheet lift-revised.sheet old.commands lift.commands; do
         expect "crates/cli_cases/data/$name is not the sample" cmp -s "$examples/$name" "$root/crates/cli_cases/data/$name"
@@ -159,6 +178,41 @@ refusals() {
     # shellcheck disable=SC2059
     printf "$torn" >want.err
     compare 1 show torn
+}
+
+# which samples a sheet takes; its own refusals come first, and nothing is written beside a complaint
+too_many='refused 20 at 4096: too many samples (the place is the most); more than 16384 bytes, where a run takes at most 4096 samples of four bytes; head -c 16384 keeps the first 4096'
+left_over='left over behind the last whole word, where a word has four bytes'
+benches() {
+    gives taken bench open samples
+    says '' bench open empty
+    says '' bench five samples
+    says '' bench five empty
+    says 'A95\n' bench open most
+    says '' bench five most
+    complains 1 "over: $too_many\n" bench open over
+    complains 1 "further: $too_many\n" bench five further
+    complains 1 "standard input: $too_many\n" bench open - <further
+    complains 1 "part1: 1 byte $left_over\n" bench open part1
+    complains 1 "part2: 2 bytes $left_over\n" bench open part2
+    complains 1 "part3: 3 bytes $left_over\n" bench five part3
+    complains 1 "lone: 3 bytes $left_over\n" bench open lone
+    for words in samples over part1 empty; do complains 1 "$lower" bench lower $words; done
+    complains 1 "$again" bench again samples
+    complains 1 'four: refused 1 at 59: count or record incomplete; states: the count is missing\n' bench four samples
+    complains 2 'missing: no such file\n' bench missing samples
+    complains 2 'missing: no such file\n' bench lower missing
+    complains 2 'folder: is a directory\n' bench open folder
+    says '' bench open samples -o result
+    expect '-o of bench' cmp -s result taken
+    for words in over part1; do
+        status_is 1 "-o of bench and $words" "$voltamar" bench open $words -o result
+        expect "$words leaves the file" cmp -s result taken
+    done
+    status_is 1 '-o of bench and a refused sheet' "$voltamar" bench lower samples -o unmade
+    expect 'a refused sheet makes no file' test ! -e unmade
+    # what is taken is a file of samples again, and the sheet takes all of it
+    gives taken bench open taken
 }
 
 # what is read back is a sheet: its labels are those of the reader, and it compiles to the stream again
@@ -228,6 +282,10 @@ misuse() {
     complains 2 'usage: voltamar notice [-o FILE] [--report] OLD NEW\n' notice --force old.sheet new.sheet
     complains 2 'usage: voltamar compile [-o FILE] [--force] SHEET\n' compile --report old.sheet
     complains 2 'usage: voltamar compile [-o FILE] [--force] SHEET\n' compile old.sheet -o
+    for words in 'bench open' 'bench open samples samples' 'bench --report open samples' 'bench --commands open samples' 'bench open samples -o'; do
+        # shellcheck disable=SC2086
+        complains 2 'usage: voltamar bench [-o FILE] [--force] SHEET WORDS\n' $words
+    done
     complains 2 '--fast: no such option\nusage: voltamar read [-o FILE] [--force] STREAM\n' read --fast new.commands
     near='no such verb; the nearest is %s, and `voltamar help` lists them all\\n'
     # shellcheck disable=SC2059
@@ -235,6 +293,7 @@ misuse() {
         complains 2 "checks: $(printf "$near" check)" checks old.sheet
         complains 2 "notcie: $(printf "$near" notice)" notcie old.sheet new.sheet
         complains 2 "compil: $(printf "$near" compile)" help compil
+        complains 2 "bnech: $(printf "$near" bench)" bnech open samples
     }
 }
 
@@ -242,7 +301,7 @@ helps() {
     gives overview help
     gives overview --help
     gives overview -h
-    for verb in check section compile read notice show help; do
+    for verb in check section compile read notice show bench help; do
         "$voltamar" help $verb >want
         expect "help $verb says how it is called" grep -q "^usage: voltamar $verb" want
         gives want $verb --help
@@ -256,12 +315,20 @@ helps() {
     expect 'the version in the man page' grep -q "voltamar $version" "$root/program/voltamar.1"
 }
 
-# the words of the refusals stand in three languages
+# the words of the refusals stand in three languages; a number between that no refusal has is noRefusal in the first
 meanings() {
-    sed -n 's/^ *∷ "\(.*\)"$/\1/p' "$root/crates/refusal/specs/Words.antt" | awk '{ print NR, $0 }' >of_text
-    sed -n 's/^ *\[VOLTAMAR_.*\] = "\(.*\)",$/\1/p' "$root/include/meaning.c" | sed 1d | awk '{ print NR, $0 }' >of_c
+    sed -n 's/^ *∷ \("\(.*\)"\|noRefusal\)$/\2/p' "$root/crates/refusal/specs/Words.antt" | awk '$0 != "" { print NR, $0 }' >of_text
+    cat >meanings.c <<EOF
+#include <stdio.h>
+#include "voltamar.h"
+int main(void) {
+    for (int n = 1; n < 256; n++) printf("%d %s\n", n, voltamar_meaning((uint8_t)n));
+}
+EOF
+    cc -std=c99 "-I$root/include" meanings.c "$root/include/meaning.c" -o meanings || wrong 'include/meaning.c does not compile'
+    ./meanings | grep -v " not a refusal's number\$" >of_c
     sed -n 's/^ *\([0-9]*\) => "\(.*\)",$/\1 \2/p' "$root/rust/src/lib.rs" >of_rust
-    [ "$(wc -l <of_text)" -ge 19 ] || wrong 'meanings: not found'
+    [ "$(wc -l <of_text)" -ge 21 ] || wrong 'meanings: not found'
     expect 'include/meaning.c has other words' cmp -s of_text of_c
     expect 'rust/src/lib.rs has other words' cmp -s of_text of_rust
 }
@@ -279,6 +346,11 @@ inputs() {
     printf 'standard input%s' "${torn#torn}" | sed 's/\\n$//' >want
     expect 'its name' grep -qF "$(cat want)" named
     complains 2 'standard input: cannot be both sheets\n' notice - - <old.sheet
+    complains 2 'standard input: cannot be both the sheet and the words\n' bench - - <open
+    "$voltamar" bench - samples <open | cmp -s - taken || wrong 'a sheet of the bench from standard input'
+    "$voltamar" bench open - <samples | cmp -s - taken || wrong 'words from standard input'
+    head -c 16384 over | "$voltamar" bench open - | cmp -s - taken95 || wrong 'the start of too many words'
+    { head -c 6 samples; sleep 0.1; tail -c +7 samples; } | "$voltamar" bench open /dev/stdin | cmp -s - taken || wrong 'words in pieces'
     ln -s "$voltamar" link
     ./link compile lift.sheet | cmp -s - lift.commands || wrong 'by a link'
 }
@@ -330,7 +402,7 @@ two_at_once() {
 
 # an output that takes nothing
 no_output() {
-    for words in 'check lift.sheet' 'compile lift.sheet' 'show lift.sheet' 'notice old.sheet new.sheet' 'notice --report old.sheet new.sheet' help --version; do
+    for words in 'check lift.sheet' 'compile lift.sheet' 'bench open samples' 'show lift.sheet' 'notice old.sheet new.sheet' 'notice --report old.sheet new.sheet' help --version; do
         # shellcheck disable=SC2086
         status_is 2 "closed standard output, $words" sh -c '"$0" "$@" >&-' "$voltamar" $words
         expect "closed standard output, $words: told" grep -qx 'standard output: cannot be written' got.err
@@ -347,7 +419,7 @@ no_output() {
 
 terminal() {
     command -v script >/dev/null || return
-    for verb in 'compile lift.sheet' 'read lift.commands' 'section lift.sheet 0'; do
+    for verb in 'compile lift.sheet' 'read lift.commands' 'section lift.sheet 0' 'bench open samples'; do
         status_is 2 "$verb at a terminal" script -qec "$voltamar $verb" /dev/null
         expect "$verb at a terminal: told" grep -q 'is a terminal' got.out
         status_is 0 "$verb --force" script -qec "$voltamar $verb --force" /dev/null
@@ -509,7 +581,7 @@ installs() {
 
 "$voltamar" --version >/dev/null || wrong 'not built'
 make_files
-for part in samples sections refusals labels names file_trouble misuse helps meanings inputs output_files two_at_once no_output terminal reports \
+for part in samples sections refusals benches labels names file_trouble misuse helps meanings inputs output_files two_at_once no_output terminal reports \
     first_build later_builds a_signal unwritable installs; do
     $part
 done

@@ -66,6 +66,10 @@ pub(crate) fn write_usage(verb: u8, fd: i32) -> bool {
             fd,
             b"usage: voltamar show SHEET\n       voltamar show --commands STREAM\n",
         ),
+        words::BENCH => io::write_all(
+            fd,
+            b"usage: voltamar bench [-o FILE] [--force] SHEET WORDS\n",
+        ),
         words::HELP => io::write_all(fd, b"usage: voltamar help [VERB]\n"),
         _ => write_overview(fd),
     }
@@ -74,7 +78,7 @@ pub(crate) fn write_usage(verb: u8, fd: i32) -> bool {
 fn write_overview(fd: i32) -> bool {
     io::write_all(
         fd,
-        b"usage: voltamar check SHEET..                            judge sheets\n       voltamar section [-o FILE] [--force] SHEET N       the records of one section\n       voltamar compile [-o FILE] [--force] SHEET         a sheet's command bytes\n       voltamar read [-o FILE] [--force] STREAM           the sheet that command bytes set up\n       voltamar notice [-o FILE] [--report] OLD NEW       every alteration between two sheets\n       voltamar show SHEET                                a sheet as text\n       voltamar show --commands STREAM                    command bytes as text\n       voltamar help [VERB]                               this, or more on one verb\n       voltamar --version\nA file named - is standard input. Exit status: 0 done, 1 refused, 2 wrong usage or a file's trouble.\n",
+        b"usage: voltamar check SHEET..                             judge sheets\n       voltamar section [-o FILE] [--force] SHEET N       the records of one section\n       voltamar compile [-o FILE] [--force] SHEET         a sheet's command bytes\n       voltamar read [-o FILE] [--force] STREAM           the sheet that command bytes set up\n       voltamar notice [-o FILE] [--report] OLD NEW       every alteration between two sheets\n       voltamar show SHEET                                a sheet as text\n       voltamar show --commands STREAM                    command bytes as text\n       voltamar bench [-o FILE] [--force] SHEET WORDS     the samples that capture takes\n       voltamar help [VERB]                               this, or more on one verb\n       voltamar --version\nA file named - is standard input. Exit status: 0 done, 1 refused, 2 wrong usage or a file's trouble.\n",
     )
 }
 
@@ -118,6 +122,7 @@ fn write_more(verb: u8, fd: i32) -> bool {
             fd,
             b"Shows one record, or with --commands one command, to a line: its offset first, numbers of four bytes in hex.\nA refused file is shown up to its fault, which is marked ***.\n",
         ),
+        words::BENCH => write_bench_help(fd),
         _ => io::write_all(fd, b"Says how the program, or one verb of it, is called.\n"),
     }
 }
@@ -126,5 +131,12 @@ fn write_notice_help(fd: i32) -> bool {
     io::write_all(
         fd,
         b"Writes a line for each alteration: TERM, RANG, EDGE, SUMS or STAT, the slot, and\n  NAME  the label differs\n  ALTR  what is caught differs, and an input in hex that tells the two apart;\n        of a state its number, else state or flags differ, and no input follows\n  WORD  the description differs, but no input tells the two apart\n  OPER  a sum's operations differ\n  NEW   only the new sheet has the slot\n  GONE  only the old sheet has the slot\nAn empty notice with status 0 says that nothing is altered; a refusal gives no notice and status 1.\n--report: a page for signing, with both files' names, lengths and SHA-256, and what each line says.\n",
+    )
+}
+
+fn write_bench_help(fd: i32) -> bool {
+    io::write_all(
+        fd,
+        b"Runs the sheet's programme over samples and writes those that capture takes, in their order.\nWORDS holds the samples in their order: words of 32 bits, four bytes each, least byte first, at most 4096.\nThe result has the same form. The run starts afresh: state 0, count 0, the first sample as its own earlier one.\nWhere it ends, no later sample is looked at. The timers never hit.\nBytes are not written to a terminal, unless with --force.\n",
     )
 }

@@ -1,6 +1,7 @@
 // The command line: each verb reads its files, calls one proved library and writes what came of it, and answers the exit status.
 // Promises: every call is safe and ends. What is read and written no contract can say.
-// Rests on: console (arguments, files), sheet, compiler, reader and notice (the work), decimal (a section's number), show and report (text).
+// Rests on: console (arguments, files), sheet, compiler, reader, notice and bench (the work), decimal (a section's number), show and report (text).
+mod benching;
 mod help;
 mod noticing;
 mod showing;

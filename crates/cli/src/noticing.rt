@@ -16,7 +16,7 @@ pub(crate) fn notice(
     new_length: &mut usize,
 ) -> u8 {
     if console::is_standard(line.first) && console::is_standard(line.second) {
-        return console::twice(err);
+        return console::twice(b"both sheets", err);
     }
     let first = console::load_named(line.first, old, err);
     if !first.is_read {

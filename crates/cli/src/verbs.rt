@@ -1,6 +1,7 @@
 // The verbs. Each reads its files, calls the library and says what came of it.
 use crate::SHEET_BUFFER;
 use crate::STREAM_BUFFER;
+use crate::benching;
 use crate::help;
 use crate::noticing;
 use crate::showing;
@@ -80,13 +81,19 @@ fn run_bytes(verb: u8, line: Line, out: i32, err: i32) -> u8 {
         section(line, out, err)
     } else if verb == words::COMPILE {
         compile(line, out, err)
+    } else if verb == words::BENCH {
+        benching::bench(line, out, err)
     } else {
         read_back(line, out, err)
     }
 }
 
 fn operands(verb: u8) -> usize {
-    if verb == words::SECTION { 2 } else { 1 }
+    if verb == words::SECTION || verb == words::BENCH {
+        2
+    } else {
+        1
+    }
 }
 
 fn show(line: Line, out: i32, err: i32) -> u8 {

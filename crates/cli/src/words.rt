@@ -15,10 +15,12 @@ pub(crate) const NOTICE: u8 = 5;
 
 pub(crate) const SHOW: u8 = 6;
 
-pub(crate) const HELP: u8 = 7;
+pub(crate) const BENCH: u8 = 7;
+
+pub(crate) const HELP: u8 = 8;
 
 // How many verbs there are.
-pub(crate) const VERBS: u8 = 7;
+pub(crate) const VERBS: u8 = 8;
 
 pub(crate) fn verb_name(verb: u8) -> [u8; 8] {
     match verb {
@@ -28,6 +30,7 @@ pub(crate) fn verb_name(verb: u8) -> [u8; 8] {
         READ => *b"read    ",
         NOTICE => *b"notice  ",
         SHOW => *b"show    ",
+        BENCH => *b"bench   ",
         _ => *b"help    ",
     }
 }

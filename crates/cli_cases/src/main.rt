@@ -1,6 +1,9 @@
 // The command line on a table of cases: the file args has one word to a line, and a line `--` after each case.
 // Promises: it is safe and ends. Complaints go to standard output too, so that the file stdout holds both, and each case's status.
-// Rests on: cli (what is run), refusal, reader and term (two refusals that no command line meets), io and os.
+// Rests on: cli (what is run), refusal, reader, term and bench (three refusals that no command line meets), io and os.
+use bench::Benched;
+use bench::Earlier;
+use bench::Run;
 use buffer::Outcome;
 use lut::Answer;
 
@@ -8,6 +11,7 @@ fn main() {
     run_table(os::arg_count());
     short_room();
     wrong_count();
+    no_such_state();
 }
 
 fn run_table(last: usize) {
@@ -71,6 +75,24 @@ fn wrong_count() {
         Answer::Hit => {}
         Answer::Miss => {}
         Answer::WrongCount(needed) => write_refusal(17, needed),
+    }
+}
+
+// 24: the program's runs are fresh.
+fn no_such_state() {
+    let sheet = [0u8; 5];
+    let samples = [0u32; 1];
+    let mut room = [0u32; 1];
+    let run = Run {
+        state: 16,
+        count: 0,
+        earlier: Earlier::Nothing,
+        ended: false,
+    };
+    io::write_all(1, b"a run in state 16: ");
+    match bench::bench(&sheet, &samples, run, &mut room) {
+        Benched::Done(_, _) => {}
+        Benched::Refused(number, place) => write_refusal(number, place),
     }
 }
 

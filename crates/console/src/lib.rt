@@ -22,6 +22,8 @@ pub use say::accepted;
 pub use say::name;
 pub use say::no_number;
 pub use say::not_written;
+pub use say::part_of_word;
+pub use say::refused;
 pub use say::refused_sheet;
 pub use say::refused_stream;
 pub use say::terminal;

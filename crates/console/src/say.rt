@@ -24,8 +24,9 @@ pub fn refused_stream(arg: usize, stream: &[u8], number: u8, place: usize, err: 
     refused(arg, number, place, peek::prefix(&detail, length), err)
 }
 
-// The line is built whole, then printed.
-fn refused(arg: usize, number: u8, place: usize, detail: &[u8], err: i32) -> u8 {
+// The file that argument `arg` names was refused, and `detail` says what stands there. The line is built whole, then
+// printed.
+pub fn refused(arg: usize, number: u8, place: usize, detail: &[u8], err: i32) -> u8 {
     let mut file = io::buffer();
     let length = put_name(&mut file, arg);
     let mut line = [0u8; LINE];
@@ -81,15 +82,35 @@ pub fn not_regular(arg: usize, err: i32) -> u8 {
     TROUBLE
 }
 
+// The file that argument `arg` names is whole words but for so many bytes at its end.
+pub fn part_of_word(arg: usize, left: usize, err: i32) -> u8 {
+    let mut line = [0u8; 128];
+    let a = text::put_number(&mut line, 0, b"", left);
+    let b = buffer::put_at(
+        &mut line,
+        a,
+        peek::prefix(b" bytes", if left == 1 { 5 } else { 6 }),
+    );
+    let c = buffer::put_at(
+        &mut line,
+        b,
+        b" left over behind the last whole word, where a word has four bytes",
+    );
+    complain(arg, peek::prefix(&line, c), err);
+    REFUSED
+}
+
 // Argument `arg` should be a section's number.
 pub fn no_number(arg: usize, err: i32) -> u8 {
     complain(arg, b"not a section's number", err);
     TROUBLE
 }
 
-// Both files are standard input, which can be read once.
-pub fn twice(err: i32) -> u8 {
-    io::write_all(err, b"standard input: cannot be both sheets\n");
+// Both files, which `both` names, are standard input, which can be read once.
+pub fn twice(both: &[u8], err: i32) -> u8 {
+    io::write_all(err, b"standard input: cannot be ");
+    io::write_all(err, both);
+    io::write_all(err, b"\n");
     TROUBLE
 }
 

@@ -15,15 +15,15 @@ use Rattle.compare.proofs.Compare.{same-true}
 use Rattle.refusal.specs.Words.{ascii, meanings, noRefusal, meaningOf}
 
 -- a number that no refusal has
-pub past : (n : ℕ) → 20 ≤ n → meaningOf 0 ≡ meaningOf n
+pub past : (n : ℕ) → 25 ≤ n → meaningOf 0 ≡ meaningOf n
 unfolding meaningOf
 past n h = rw (List·getD-eq-default meanings noRefusal {n = n} h)
 
 pub short : (n : ℕ) → length (meaningOf n) ≤ 48
 unfolding meaningOf
 short n =
-    elim (decLt n 20) [
-      | yes few ↦ leb→le _ _ (every-below 20 (λ k. leb (length (meaningOf k)) 48) tt n few)
+    elim (decLt n 25) [
+      | yes few ↦ leb→le _ _ (every-below 25 (λ k. leb (length (meaningOf k)) 48) tt n few)
       | no many ↦ rw (← past n (omega arith)) (lit≤ tt)
     ]
 
@@ -32,9 +32,9 @@ abbrev pub lengths : List String → List ℕ
 lengths [] = []
 lengths (m ∷ ms) = length (ascii m) ∷ lengths ms
 
-pub length-at : (n : ℕ) → n < 20 → getD (lengths meanings) n 0 ≡ length (meaningOf n)
+pub length-at : (n : ℕ) → n < 25 → getD (lengths meanings) n 0 ≡ length (meaningOf n)
 unfolding meaningOf
-length-at n h = eqb→eq _ _ (every-below 20 (λ k. eqb (getD (lengths meanings) k 0) (length (meaningOf k))) tt n h)
+length-at n h = eqb→eq _ _ (every-below 25 (λ k. eqb (getD (lengths meanings) k 0) (length (meaningOf k))) tt n h)
 
 -- the table of texts, with spaces behind each up to the width
 abbrev pub rows : List String → List ℕ
@@ -44,13 +44,13 @@ rows (m ∷ ms) = ascii m ++ replicate (48 - length (ascii m)) 32 ++ rows ms
 row-passes : ℕ → Bool
 row-passes k = same (take (length (meaningOf k)) (drop (48 * k) (rows meanings))) (meaningOf k)
 
-pub row-at : (n : ℕ) → n < 20 → take (length (meaningOf n)) (drop (48 * n) (rows meanings)) ≡ meaningOf n
+pub row-at : (n : ℕ) → n < 25 → take (length (meaningOf n)) (drop (48 * n) (rows meanings)) ≡ meaningOf n
 unfolding meaningOf same row-passes
-row-at n h = same-true _ _ (is-true _ (every-below 20 row-passes tt n h))
+row-at n h = same-true _ _ (is-true _ (every-below 25 row-passes tt n h))
 
 -- so many bytes from the start of a row on
-pub row-part : (all : List ℕ) → ((k : ℕ) → k < 20 → take (length (meaningOf k)) (drop (48 * k) all) ≡ meaningOf k)
-    → (n m : ℕ) → n < 20 → m ≡ length (meaningOf n) → take (48 * n + m - 48 * n) (drop (48 * n) all) ≡ meaningOf n
+pub row-part : (all : List ℕ) → ((k : ℕ) → k < 25 → take (length (meaningOf k)) (drop (48 * k) all) ≡ meaningOf k)
+    → (n m : ℕ) → n < 25 → m ≡ length (meaningOf n) → take (48 * n + m - 48 * n) (drop (48 * n) all) ≡ meaningOf n
 row-part all begins n m h e =
     let l : 48 * n + m - 48 * n ≡ length (meaningOf n) = omega arith in
     rw l (begins n h)

@@ -14,7 +14,7 @@ ascii (c then cs) = code c ∷ ascii cs
 abbrev pub noRefusal : String
 noRefusal = "not a refusal's number"
 
--- what each refusal means, by its number [A12]
+-- what each refusal means, by its number; no refusal has 21, 22 or 23 [A12]
 abbrev pub meanings : List String
 meanings =
     noRefusal
@@ -29,7 +29,7 @@ meanings =
     ∷ "neither together with rise or fall on a line"
     ∷ "operation above 9"
     ∷ "bytes left over"
-    ∷ "output too short (the place is the bytes needed)"
+    ∷ "output too short (the place is what is needed)"
     ∷ "stream ends inside a command or item"
     ∷ "opcode other than the one due"
     ∷ "address unknown, not rising, or not the one due"
@@ -37,6 +37,11 @@ meanings =
     ∷ "wrong word count (the place is the count needed)"
     ∷ "a state's field too big for its place"
     ∷ "label the same as an earlier one of its section"
+    ∷ "too many samples (the place is the most)"
+    ∷ noRefusal
+    ∷ noRefusal
+    ∷ noRefusal
+    ∷ "state above 15, or count not below its number"
     ∷ []
 
 -- what a number means, as bytes [A12]

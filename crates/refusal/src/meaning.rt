@@ -6,8 +6,8 @@ ghost use Rattle.buffer.specs.Room.{Wrote};
 ghost use Rattle.refusal.specs.Words.{meaningOf};
 use crate::put::put;
 
-// How many numbers have a row: 0, which no refusal has, and those of the refusals.
-const ROWS: usize = 20;
+// How many numbers have a row: all up to the last refusal's, those between that no refusal has too.
+const ROWS: usize = 25;
 
 const WIDTH: usize = 48;
 
@@ -25,14 +25,19 @@ const MEANINGS: [u8; ROWS * WIDTH] = *b"\
     neither together with rise or fall on a line    \
     operation above 9                               \
     bytes left over                                 \
-    output too short (the place is the bytes needed)\
+    output too short (the place is what is needed)  \
     stream ends inside a command or item            \
     opcode other than the one due                   \
     address unknown, not rising, or not the one due \
     words that no accepted description writes       \
     wrong word count (the place is the count needed)\
     a state's field too big for its place           \
-    label the same as an earlier one of its section ";
+    label the same as an earlier one of its section \
+    too many samples (the place is the most)        \
+    not a refusal's number                          \
+    not a refusal's number                          \
+    not a refusal's number                          \
+    state above 15, or count not below its number   ";
 
 // How much of each row is text.
 const LENGTHS: [usize; ROWS] = [
@@ -48,7 +53,7 @@ const LENGTHS: [usize; ROWS] = [
     44,
     17,
     15,
-    48,
+    46,
     36,
     29,
     47,
@@ -56,18 +61,23 @@ const LENGTHS: [usize; ROWS] = [
     48,
     37,
     47,
+    40,
+    22,
+    22,
+    22,
+    45,
 ];
 
-// The row for a number; that of 0 where no refusal has the number.
+// The row for a number; that of 0 past the last row.
 fn row_of(number: u8) -> usize
-    ensures { λ r. ⌜ (r < 20) × (meaningOf r ≡ meaningOf number) ⌝ }
+    ensures { λ r. ⌜ (r < 25) × (meaningOf r ≡ meaningOf number) ⌝ }
 {
     let row = number as usize;
     if row < ROWS { row } else { 0 }
 }
 
 fn length_of(row: usize) -> usize
-    requires { ⌜ row < 20 ⌝ }
+    requires { ⌜ row < 25 ⌝ }
     ensures { λ r. ⌜ r ≡ length (meaningOf row) ⌝ }
 {
     let lengths = LENGTHS;
@@ -76,7 +86,7 @@ fn length_of(row: usize) -> usize
 
 // The rows; each begins with the text of its number.
 fn rows() -> [u8; ROWS * WIDTH]
-    ensures { λ r. ⌜ ((k : ℕ) → k < 20 → take (length (meaningOf k)) (drop (48 * k) r) ≡ meaningOf k) ⌝ }
+    ensures { λ r. ⌜ ((k : ℕ) → k < 25 → take (length (meaningOf k)) (drop (48 * k) r) ≡ meaningOf k) ⌝ }
 {
     MEANINGS
 }

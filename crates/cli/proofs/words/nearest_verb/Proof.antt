@@ -8,7 +8,7 @@ abbrev Inv-loop : tie.InvT-loop
 Inv-loop arg n typed nearest₀ verb₀ nearest verb = Unit {0}
 
 abbrev μ-loop : tie.MeasureT-loop
-μ-loop arg n typed nearest₀ verb₀ nearest verb = 8 - verb
+μ-loop arg n typed nearest₀ verb₀ nearest verb = 9 - verb
 
 buffer-requires : tie.Need-buffer-requires Inv-loop μ-loop
 buffer-requires c κs = search needs

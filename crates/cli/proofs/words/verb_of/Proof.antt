@@ -8,7 +8,7 @@ abbrev Inv-loop : tie.InvT-loop
 Inv-loop arg verb₀ verb = Unit {0}
 
 abbrev μ-loop : tie.MeasureT-loop
-μ-loop arg verb₀ verb = 8 - verb
+μ-loop arg verb₀ verb = 9 - verb
 
 loop-holds : tie.Need-loop-holds Inv-loop μ-loop
 loop-holds c = tt
