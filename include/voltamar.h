@@ -129,7 +129,7 @@ bool voltamar_edge_hit(uint32_t rise, uint32_t fall, uint32_t neither, uint32_t 
  * cleared, and the run goes to the next state, or ends if the state is 15 or has the flag last. If the hit sum does not match and the
  * else sum does, the run goes to the else state and the count is cleared. After the end no sample is looked at. The first sample of
  * a fresh run is its own earlier one. Terms, ranges and edges that the sheet does not have never hit, nor do the timers; sums never
- * match; a state that it does not have has number 1, else state 0 and no flags. */
+ * match; a state that it does not have counts to 1 and leads to state 0, and has no flag set. */
 uint8_t voltamar_bench(const uint8_t *sheet, size_t n, const uint32_t *samples, size_t k, uint32_t *run, size_t run_words,
                        uint32_t *out, size_t room, size_t *place);
 

@@ -1,6 +1,6 @@
 -- A text that is written piece by piece from an index on: `rest` of it is left, to be written at `at`. Assumes nothing.
-use Prim.Native.Nat.{ℕ, _+_, _-_, _≤_}
-use mathlib.Core.Path.{_≡_, refl}
+use Prim.Native.Nat.{ℕ, zero-le, _+_, _-_, _≤_, _<_}
+use mathlib.Core.Path.{_≡_, refl, ap, _∙_}
 use mathlib.Core.List.{List, [], _++_}
 use native.Mathlib.Omega.{arith}
 use borrow.Rule.Slice.PartMut.{midOf, putMid}
@@ -40,3 +40,28 @@ module _ (from : ℕ) (text out₀ out : List ℕ) (at : ℕ) (rest : List ℕ) 
 pub wrote-lent : (at : ℕ) (text out : List ℕ) (r : Outcome) (out′ : List ℕ) (at′ : ℕ) → at + length text ≤ length out → at′ ≡ at + length text
     → Delivered (bytes text) (midOf at (length out - at) out) r out′ → Wrote at text out (putMid at (length out - at) out out′) at′
 wrote-lent at text out r out′ at′ h e d = record { next = e; left = lent at text out r out′ h d }
+
+-- a text of so many pieces, one for each number below n: those from i on are left
+pub record Stepping (from : ℕ) (rest : ℕ → List ℕ) (n : ℕ) (out₀ out : List ℕ) (at i : ℕ) : Type 0 where
+  pub below : i ≤ n
+  pub left : Left from (rest 0) out₀ out at (rest i)
+
+module _ (from : ℕ) (rest : ℕ → List ℕ) (n : ℕ) where
+  pub stepping-start : (out : List ℕ) → from + length (rest 0) ≤ length out → Stepping from rest n out out from 0
+  stepping-start out h = record { below = zero-le; left = left-start from (rest 0) out h }
+
+  module _ (out₀ out : List ℕ) (at i : ℕ) (s : Stepping from rest n out₀ out at i) where
+    -- the next piece fits, and then there is one less
+    pub stepping-room : (piece : List ℕ) → rest i ≡ piece ++ rest (i + 1) → at + length piece ≤ length out
+    stepping-room piece e = left-room from (rest 0) out₀ out at (rest i) (s .left) piece (rest (i + 1)) e
+
+    pub stepping-turn : (piece : List ℕ) → rest i ≡ piece ++ rest (i + 1) → i < n → (out′ : List ℕ) (at′ : ℕ) → Wrote at piece out out′ at′
+        → Stepping from rest n out₀ out′ at′ (i + 1)
+    stepping-turn piece e h out′ at′ w =
+        record { below = omega arith; left = left-turn from (rest 0) out₀ out at (rest i) (s .left) piece (rest (i + 1)) out′ at′ e w }
+
+    pub stepping-end : rest n ≡ [] → n ≤ i → Wrote from (rest 0) out₀ out at
+    stepping-end e h =
+        let b = s .below in
+        let all : i ≡ n = omega arith in
+        left-end from (rest 0) out₀ out at (rest i) (s .left) (ap rest all ∙ e)

@@ -66,7 +66,7 @@ loop-again c =
     (i .0, walking-turn _ _ (now (a .old)) (now (a .new)) _ _ _ _ _ _ _ _ (i .1) (omega arith) (c .before .before .before .before .before .record-with .ensures) (c .before .before .before .before .record-with2 .ensures) _ _ (c .before .before .put-slot .ensures))
 
 same-length : tie.Need-same-length Inv-loop μ-loop
-same-length c = c .before .loop .inv .1 .left .pending .size
+same-length c = c .before .loop .inv .1 .steps .left .pending .size
 
 returns : tie.Need-returns Inv-loop μ-loop
 returns c = walking-end _ _ _ _ _ _ _ _ _ _ (c .before .loop .inv .1) (omega arith)

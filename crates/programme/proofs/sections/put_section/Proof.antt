@@ -102,7 +102,7 @@ loop-again c =
     )
 
 same-length : tie.Need-same-length Inv-loop μ-loop
-same-length c = c .before .loop .inv .2 .left .pending .size
+same-length c = c .before .loop .inv .2 .steps .left .pending .size
 
 returns : tie.Need-returns Inv-loop μ-loop
 returns c =
