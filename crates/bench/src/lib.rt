@@ -49,7 +49,8 @@ pub struct Moved {
     pub ended: bool,
 }
 
-// What the walk over the samples leaves: how many were taken, and where the run stands after the last one that was looked at.
+// What the walk over the samples leaves: how many were taken, and where the run stands after the last one that was
+// looked at.
 pub struct Walked {
     pub taken: usize,
     pub state: u32,

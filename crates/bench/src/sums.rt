@@ -8,7 +8,7 @@ ghost use Rattle.bench.specs.Asking.{addressAt, fourOf, addressesOf, inp
 ghost use Rattle.programme.specs.Table.{sixAt};
 
 // A third of the address at which the table of a pair is asked: source a drives its inputs 0 and 1, source b its inputs
-// 2 and 3. Multiplied all together at the end, they are made without a branch.
+// 2 and 3. The third has one bit for each source, of which no branch is made; all are multiplied at once.
 fn third_at(sources: u32, a: u32, b: u32) -> u32
     ensures { λ r. ⌜ (3 * r ≡ addressAt sources a b) × (r < 6) ⌝ }
 {
