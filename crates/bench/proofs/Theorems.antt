@@ -24,9 +24,9 @@ use Rattle.bench.proofs.Succeeding.{accepts, sheet-accepted, bench-did,
 
 -- ---- two pieces
 
--- one call on all samples wrote n words and handed on `final`; the first piece, given the room out₁, and then the second
--- do the same. Within one room, out, the second may be lent what the first left: its k words are the first of it, and
--- n ≤ k + (length out - k) [D4.2]
+-- one call on all samples wrote n words and handed on `final`: a call on the first piece, with the room out₁, and then
+-- one on the second do the same. The two may share one room: of `out`, which n words fit, the second call may be lent
+-- what the first left behind its k words, since n ≤ k + (length out - k) [D4.2]
 pub record InPieces (s xs ys : List ℕ) (r : Run) (out out₁ : List ℕ) (n : ℕ) (final : Run) : Type 0 where
   pub k : ℕ
   pub mid : Run
@@ -72,8 +72,8 @@ two-pieces s xs ys r out n final e out₁ h =
           ∙ sym (ap₂ (λ (u v : List ℕ). u ++ v) (writes s xs r out₁ k mid one) (writes s ys mid out₂ (n - k) final (two out₂ f)));
     }
 
--- and back: two calls, the second on the run that the first handed on, are one on all samples, where these are within the
--- limit and there is room [D4.2]
+-- and back: two calls, the second on the run that the first handed on, are one on all samples, where these are within
+-- the limit and there is room [D4.2]
 module _ (s xs ys : List ℕ) (r : Run) (out out₁ out₂ : List ℕ) (k j : ℕ) (mid final : Run)
     (first : benched s xs r (length out₁) ≡ Done k mid) (second : benched s ys mid (length out₂) ≡ Done j final)
     (few : length (xs ++ ys) ≤ mostSamples) (fits : k + j ≤ length out) where

@@ -1,4 +1,4 @@
--- The walk over the samples, one at a time: what holds before each, and what is so at its end. Holds of any machine. Assumes nothing.
+-- The walk over the samples of any machine: what holds before each sample, and at the end. Assumes nothing.
 use Prim.Native.Nat.{ℕ, _+_, _≤_, _<_}
 use mathlib.Core.Path.{_≡_, refl, sym, ap, ap₂, _∙_, subst}
 use mathlib.Core.Bool.{Bool, true, false, cond}

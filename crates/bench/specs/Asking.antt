@@ -1,4 +1,4 @@
--- How the body asks a table: a sample's sources from the highest line down, and its sums at addresses that are made once.
+-- How the body asks a table: a sample's sources from the highest down, and its sums at addresses that are made once.
 use Prim.Native.Nat.{ℕ, _+_, _-_, _*_, _/_, _%_}
 use mathlib.Core.Bool.{Bool, cond}
 use mathlib.Core.List.{List}
@@ -29,7 +29,7 @@ fourOf s pairs =
     + 16 * (addressAt s (getD pairs 2 0) (getD pairs 3 0)
     + 16 * (addressAt s (getD pairs 4 0) (getD pairs 5 0) + 16 * addressAt s (getD pairs 6 0) (getD pairs 7 0)))
 
--- those of the first four pairs in the low half, of the last four in the high half; every sum is asked at them; computed
+-- those of the first four pairs in the low half, of the last four in the high half, for all sums of a sample; computed
 -- [M6, M7, B6]
 unfoldable pub addressesOf : (sources : ℕ) → ℕ
 addressesOf s = fourOf s firstPairs + 65536 * fourOf s lastPairs

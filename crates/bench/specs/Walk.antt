@@ -30,7 +30,7 @@ runFrom state count earlier = record { state = state; count = count; earlier = W
 abbrev pub ranTo : Walked → Run
 ranTo w = record { state = w .state; count = w .count; earlier = Word (w .earlier); ended = w .ended }
 
--- a walk counted what capture takes, and stored it as far as the lent words go [R6, R10]
+-- a walk counted what capture takes, and stored it one after the other from the start of the lent words on [R6, R10]
 pub record Walks (m : Machine) (samples : List ℕ) (state count earlier : ℕ) (out : List ℕ) (w : Walked) (out′ : List ℕ) : Type 0 where
   pub counted : w .taken ≡ length (taken m (runFrom state count earlier) samples)
   pub handed : ranTo w ≡ handedOn m (runFrom state count earlier) samples

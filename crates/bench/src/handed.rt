@@ -30,7 +30,7 @@ fn no_run() -> Run
     }
 }
 
-// Whether the words that may not be any are those of a run: each flag 0 or 1, and no earlier word where there is none.
+// Whether the last three words are a run's: each flag 0 or 1, and no earlier word where there is none.
 fn are_flags(flag: u32, word: u32, ended: u32) -> bool
     ensures { λ r. ⌜ r ≡ ltb flag 2 && ltb ended 2 && (eqb flag 1 || eqb word 0) ⌝ }
 {

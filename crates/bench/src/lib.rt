@@ -1,6 +1,6 @@
 // The bench: runs the programme of a sheet over samples, and writes those that capture takes.
 // Promises: the sheet's refusal, 20, 24 or 12, or the words written and the run to hand on, as through the chain words; two pieces are one run (proofs/Theorems).
-// Rests on: programme (the sheet's table, and that it answers as the chain words do), lines, lut and edge (digits, tables, the plain rule of an edge).
+// Rests on: programme (the sheet's table, and that it answers as the chain words do), buffer (answers and lent room), lines, lut and edge (digits, tables, an edge's rule).
 mod call;
 mod handed;
 mod moves;
@@ -49,7 +49,8 @@ pub struct Moved {
     pub ended: bool,
 }
 
-// What the walk over the samples leaves: how many were taken, and where the run stands after the last one that was looked at.
+// What the walk over the samples leaves: how many were taken, and where the run stands after the last one that was
+// looked at.
 pub struct Walked {
     pub taken: usize,
     pub state: u32,

@@ -8,14 +8,14 @@ ghost use Rattle.bench.specs.Asking.{addressAt, fourOf, addressesOf, inp
 ghost use Rattle.programme.specs.Table.{sixAt};
 
 // A third of the address at which the table of a pair is asked: source a drives its inputs 0 and 1, source b its inputs
-// 2 and 3. Multiplied all together at the end, they are made without a branch.
+// 2 and 3. The third has one bit for each source, of which no branch is made; all are multiplied at once.
 fn third_at(sources: u32, a: u32, b: u32) -> u32
     ensures { λ r. ⌜ (3 * r ≡ addressAt sources a b) × (r < 6) ⌝ }
 {
     lines::line_value(sources, a) + 4 * lines::line_value(sources, b)
 }
 
-// The first four pairs: a b, c range 1, d edge 1, e timer 1.
+// Thirds of the addresses of the pairs ab, c, d and e, by their sources [M6].
 fn first_four(sources: u32) -> u32
     ensures { λ r. ⌜ (3 * r ≡ fourOf sources firstPairs) × (r < 21846) ⌝ }
 {
@@ -25,7 +25,7 @@ fn first_four(sources: u32) -> u32
                 + 16 * (third_at(sources, 3, 12) + 16 * third_at(sources, 4, 14)))
 }
 
-// The last four: f g, h range 2, i edge 2, j timer 2.
+// Those of the pairs fg, h, i and j.
 fn last_four(sources: u32) -> u32
     ensures { λ r. ⌜ (3 * r ≡ fourOf sources lastPairs) × (r < 21846) ⌝ }
 {

@@ -1,9 +1,10 @@
 // The walk over the samples, in one pass.
 ghost use mathlib.Core.Path.{_≡_};
-ghost use Prim.Native.Nat.{_+_, _<_};
-ghost use lib.ListN.{set};
+ghost use Prim.Native.Nat.{_+_, _≤_, _<_};
+ghost use lib.ListN.{length, set};
 ghost use mathlib.Core.Bool.{true, cond};
 ghost use Rattle.lut.specs.Table.{oneIf};
+ghost use Rattle.bench.specs.Call.{mostSamples};
 ghost use Rattle.bench.specs.Walk.{Starts, Walks};
 ghost use Rattle.programme.specs.Table.{plain};
 use crate::Walked;
@@ -12,21 +13,19 @@ use crate::moves::move_on;
 use crate::sources::sources_of;
 use crate::sums::addresses_of;
 
-// A word at an index of the lent words, if it was taken and the index is there. Answers the next index.
+// A word at an index of the lent words, if it was taken. Answers the next index.
 fn put_word(out: &mut [u32], n: usize, sample: u32, taken: bool) -> usize
-    requires { ⌜ n < 1048576 ⌝ }
+    requires { ⌜ (n < length (now out)) × (n < mostSamples) ⌝ }
     ensures { λ r. ⌜ (r ≡ n + oneIf taken) × (now (out .exit) ≡ cond taken (set (now (out .entry)) n sample) (now (out .entry))) ⌝ }
 {
     if taken {
-        if n < out.len() {
-            out[n] = sample;
-        }
+        out[n] = sample;
         return n + 1;
     }
     n
 }
 
-// Walks until the run ends or the samples do. Words are written while there is room; all that are taken are counted.
+// Walks until the run ends or the samples do. There is room for all samples, so that no word is judged by itself.
 pub(crate) fn walk(
     table: &[u32],
     samples: &[u32],
@@ -36,6 +35,7 @@ pub(crate) fn walk(
     out: &mut [u32],
 ) -> Walked
     requires { ⌜ Starts (now table) (now samples) state count ⌝ }
+    requires { ⌜ length (now samples) ≤ length (now out) ⌝ }
     ensures { λ r. ⌜ Walks (plain (now (table .entry))) (now (samples .entry)) state count earlier (now (out .entry)) r (now (out .exit)) ⌝ }
 {
     let mut state = state;

@@ -1,9 +1,5 @@
--- `put_word` meets its contract: a word beyond the lent ones is not stored, and stores nothing in `set` either. Assumes nothing.
-use mathlib.Core.Path.{sym, ap, _∙_}
-use mathlib.Core.Logic.{⊎-elim}
+-- `put_word` meets its contract. Assumes nothing.
 use borrow.Author.Needs.{needs}
-use lib.ListN.{length, length-set}
-use lib.Seq.{set-out}
 use Rattle.bench.proofs.walk.put_word.Statement.{statement}
 use Rattle.bench.proofs.walk.put_word.Tie as tie
 
@@ -17,10 +13,10 @@ add-result : tie.Need-add-result
 add-result c = search needs
 
 same-length : tie.Need-same-length
-same-length c = ⊎-elim (λ w. ap length (w .1) ∙ simp length-set) (λ w. ap length (w .1)) (c .if2 .came)
+same-length c = search needs
 
 returns : tie.Need-returns
-returns c = rw (c .before .if1 .taken) (search needs, ⊎-elim (λ w. w .1) (λ w. w .1 ∙ sym (set-out _ _ _ (w .0 .left))) (c .if2 .came))
+returns c = rw (c .if1 .taken) (search needs)
 
 returns-2 : tie.Need-returns-2
 returns-2 c = rw (c .if1 .left) (search needs)

@@ -14,7 +14,7 @@ use Rattle.bench.proofs.walk.walk.Tie as tie
 
 abbrev Inv-loop : tie.InvT-loop
 Inv-loop table samples state count earlier out₀ state₀ count₀ earlier₀ n₀ i₀ out state' count' earlier' n i =
-    (length table ≡ 336) × (length samples ≤ 4096)
+    (length table ≡ 336) × (length samples ≤ 4096) × (length samples ≤ length out₀)
     × Walking (plain table) samples (runFrom state count earlier) out₀ i n (runFrom state' count' earlier') out
 
 abbrev μ-loop : tie.MeasureT-loop
@@ -25,10 +25,11 @@ loop-holds c =
     let b = c .before .before .before in
     let a = b .args in
     let p = b .pre in (
-      p .whole,
-      p .few,
+      p .0 .whole,
+      p .0 .few,
+      p .1,
       walk-starts (plain (a .table .now)) (a .samples .now) (runFrom (a .state) (a .count) (a .earlier)) (a .out .now) (a .state) (a .count)
-          (a .earlier) refl (p .state-fits, p .count-fits),
+          (a .earlier) refl (p .0 .state-fits, p .0 .count-fits),
     )
 
 mul-sample : tie.Need-mul-sample Inv-loop μ-loop
@@ -54,7 +55,7 @@ move-on-requires c κs =
     let l = c .before .before .before .before .before .before .before .before .before in
     let a = l .before .before .before .before .args in
     let w = number-within (plain (a .table .now) .word (l .loop .state)) in
-    (search needs, search needs, omega (arith, l .loop .inv .2 .stands .1, w .1))
+    (search needs, search needs, omega (arith, l .loop .inv .3 .stands .1, w .1))
 
 add-i : tie.Need-add-i Inv-loop μ-loop
 add-i c = search needs
@@ -74,7 +75,7 @@ turned c =
     let l = f .before .before .before .before in
     let a = l .before .before .before .before .args in
     walk-turns (plain (a .table .now)) (a .samples .now) (runFrom (a .state) (a .count) (a .earlier)) (a .out .now) (l .loop .i) (l .loop .n)
-    (l .loop .state) (l .loop .count) (l .loop .earlier) (l .loop .out) (l .loop .inv .2) (f .before .before .before .loop-test .taken) _ _ _ _ _ _
+    (l .loop .state) (l .loop .count) (l .loop .earlier) (l .loop .out) (l .loop .inv .3) (f .before .before .before .loop-test .taken) _ _ _ _ _ _
     refl (f .before .sources-of .ensures) (p .before .capture-matches .ensures _ e) (p .put-word .ensures .0) (p .put-word .ensures .1)
     (c .move-on .ensures _ e)
 
@@ -97,6 +98,7 @@ loop-again c =
     let a = l .before .before .before .before .args in (
       l .loop .inv .0,
       l .loop .inv .1,
+      l .loop .inv .2,
       walk-on (plain (a .table .now)) (a .samples .now) (runFrom (a .state) (a .count) (a .earlier)) (a .out .now) _ _ _ _
           (c .before .move-on .result) (turned (c .before)) (c .if1 .left),
     )
@@ -108,7 +110,7 @@ returns-2 : tie.Need-returns-2 Inv-loop μ-loop
 returns-2 c =
     let l = c .before in
     let a = l .before .before .before .before .args in
-    walk-ends (plain (a .table .now)) (a .samples .now) (a .state) (a .count) (a .earlier) (a .out .now) _ _ _ _ _ _ (l .loop .inv .2) (omega arith)
+    walk-ends (plain (a .table .now)) (a .samples .now) (a .state) (a .count) (a .earlier) (a .out .now) _ _ _ _ _ _ (l .loop .inv .3) (omega arith)
 
 pub walk-spec : {M : Type 1} → statement M
 walk-spec =
