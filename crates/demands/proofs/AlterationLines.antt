@@ -1,18 +1,16 @@
 -- Which lines the notice of two accepted sheets has for a slot, and that its bytes determine its lines. Assumes
 -- nothing.
-use Prim.Native.Nat.{ℕ, _+_, _<_}
+use Prim.Native.Nat.{ℕ, _<_}
 use mathlib.Core.Path.{_≡_, refl, sym, ap, subst, _∙_}
-use mathlib.Core.List.{List, [], List·Memᴰ}
+use mathlib.Core.List.{List, List·Memᴰ}
 use mathlib.Core.Logic.{_↔_}
 use native.Mathlib.Omega.{arith}
 use lib.Dec.{lit<}
-use lib.ListN.{length, getD, length-drop}
 use Rattle.lut.specs.declared.Input.{Input}
 use Rattle.lut.specs.declared.Input.the-variants.{Nothing}
 use Rattle.lut.specs.Telling.{HitAlike, TellsApart, NoneLess}
 use Rattle.peek.specs.Bytes.{Bytes}
 use Rattle.buffer.specs.declared.Verdict.the-variants.{Accepted}
-use Rattle.peek.proofs.Numbers.{bytes-drop}
 use Rattle.kinds.specs.Change.{Says}
 use Rattle.state.specs.Description as state
 use Rattle.state.proofs.Theorems.{bytes-inverse}
@@ -21,9 +19,9 @@ use Rattle.kinds.specs.declared.Change.{Change}
 use Rattle.kinds.specs.declared.Change.the-variants.{Oper, Word, Altr}
 use Rattle.kinds.proofs.Ways as ways
 use Rattle.kinds.proofs.Ways.{change-says, word-iff-alike}
-use Rattle.records.specs.Sections.{sections, labelSize, mostOf, labelOf}
+use Rattle.records.specs.Sections.{sections, mostOf, labelOf}
 use Rattle.sheet.specs.Reading.{verdict}
-use Rattle.sheet.specs.Parsed.{Faultless, recordWith}
+use Rattle.sheet.specs.Parsed.{recordWith}
 use Rattle.sheet.proofs.Slots.{description-bytes, record-sound, description-whole, has-below}
 use Rattle.notice.specs.declared.Finding.{Finding}
 use Rattle.notice.specs.declared.Finding.the-variants.{New, Gone, Name, Changed}

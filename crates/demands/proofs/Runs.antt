@@ -2,7 +2,7 @@
 -- (`benchedLeft`), which its contract equates; `machineOf` is a sheet's programme run through its chain words. Assumes
 -- nothing.
 use Prim.Native.Nat.{ℕ, _+_, _≤_, _<_}
-use mathlib.Core.Path.{_≡_, refl, ap}
+use mathlib.Core.Path.{_≡_}
 use mathlib.Core.Bool.{true, false}
 use mathlib.Core.List.{List, [], _++_}
 use lib.ListN.{length, take}
@@ -18,10 +18,9 @@ use Rattle.sheet.specs.Parsed.{recordWith}
 use Rattle.programme.specs.Machine.{sourcesBy, shown, byRules}
 use Rattle.programme.proofs.Theorems as programme
 use Rattle.bench.specs.declared.Run.{Run}
-use Rattle.bench.specs.declared.Benched.{Benched}
 use Rattle.bench.specs.declared.Benched.the-variants.{Done, Refused}
 use Rattle.bench.specs.Run.{Subsequence}
-use Rattle.bench.specs.Call.{mostSamples, unless, answered, machineOf, leftBy, benched, benchedLeft}
+use Rattle.bench.specs.Call.{mostSamples, machineOf, benched, benchedLeft}
 use Rattle.bench.specs.Handed.{handedBy}
 use Rattle.bench.proofs.Theorems as bench
 

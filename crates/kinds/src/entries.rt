@@ -1,5 +1,4 @@
 // The entries of the table that a bench makes of a sheet: one shape for each kind, and one for a slot without record.
-ghost use mathlib.Core.Path.{_≡_};
 ghost use Rattle.buffer.specs.Room.{bytes, Delivered};
 ghost use Rattle.kinds.specs.Table.{entryOf, missingOf};
 use crate::EDGES;

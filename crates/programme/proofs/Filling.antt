@@ -9,7 +9,7 @@ use lib.ListN.{length, getD, drop}
 use Rattle.buffer.specs.Room.{Wrote}
 use Rattle.buffer.proofs.Left.{Stepping, stepping-start, stepping-room, stepping-turn, stepping-end}
 use Rattle.kinds.specs.Table.{sections, mostOf}
-use Rattle.records.specs.Records.{recordsIn, find, front}
+use Rattle.records.specs.Records.{recordsIn, front}
 use Rattle.sheet.specs.Parsed.{Ordered, parse}
 use Rattle.sheet.proofs.Cursors.{Cursor, cursor-start, cursor-finds, cursor-turn}
 use Rattle.programme.specs.Table.{entryFor, entriesFrom, tableFrom, tableOf}

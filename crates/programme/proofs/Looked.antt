@@ -1,22 +1,20 @@
 -- A machine that looks its answers up in the table of an accepted sheet answers by the sheet's plain rules. Assumes
 -- nothing.
-use Prim.Native.Nat.{ℕ, suc, _+_, _*_, _^_, _<_}
+use Prim.Native.Nat.{ℕ, _+_, _*_, _^_, _<_}
 use mathlib.Core.Path.{_≡_, refl, sym, ap, ap₂, _∙_}
-use mathlib.Core.Bool.{Bool, true, false, _&&_}
+use mathlib.Core.Bool.{false, _&&_}
 use mathlib.Core.List.{List, [], _∷_}
 use native.Mathlib.Nat.{zero-div}
 use native.Mathlib.Omega.{arith}
 use lib.Bits.{bitAnd, and-zero-r}
 use lib.Dec.{eqb, leb, lit<}
-use lib.ListN.{length, getD}
+use lib.ListN.{getD}
 use Rattle.lines.specs.Line.{line}
-use Rattle.lines.specs.Gather.{scattered}
 use Rattle.lines.proofs.Over.{any-none}
 use Rattle.lut.specs.Table.{oneIf}
 use Rattle.lut.specs.declared.Input.the-variants.{Nothing, Sample, Samples, Sources}
 use Rattle.peek.specs.Bytes.{Bytes}
 use Rattle.peek.proofs.Numbers.{u32-small}
-use Rattle.term.specs.Rule.{termHit}
 use Rattle.term.proofs.PlainRule.{term-masked}
 use Rattle.range.specs.Rule as range-rule
 use Rattle.range.specs.Description as range

@@ -1,12 +1,12 @@
 -- Gathered numbers are in the order of the masked samples, so that bounds put on the masked lines once spare the
 -- gathering. Assumes nothing.
-use Prim.Native.Nat.{ℕ, zero, suc, _+_, _-_, _*_, _/_, _%_, _^_, _≤_, _<_, min}
+use Prim.Native.Nat.{ℕ, zero, suc, _+_, _-_, _*_, _/_, _%_, _^_, _<_, min}
 use mathlib.Core.Path.{_≡_, refl, sym, ap, ap₂, _∙_}
-use mathlib.Core.Bool.{Bool, _&&_}
+use mathlib.Core.Bool.{_&&_}
 use native.Mathlib.Nat.{two-pow-succ}
 use native.Mathlib.Omega.{arith}
 use lib.Bits.{bitAnd, and-step, and-zero-r}
-use lib.Count.{ones, onesIn}
+use lib.Count.{ones}
 use lib.Dec.{leb}
 use lib.Pow.{pow-pos}
 use Rattle.lines.specs.Gather.{pack, gathered, scattered}

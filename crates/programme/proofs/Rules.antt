@@ -1,6 +1,6 @@
 -- The chain words of an accepted sheet, run in the model, answer as its plain rules do. Assumes nothing.
-use Prim.Native.Nat.{ℕ, suc, _+_, _-_, _<_}
-use mathlib.Core.Path.{_≡_, refl, ap, ap₂, _∙_}
+use Prim.Native.Nat.{ℕ, suc, _-_, _<_}
+use mathlib.Core.Path.{_≡_, refl, ap, _∙_}
 use mathlib.Core.Bool.{Bool, true, false, cond}
 use mathlib.Core.List.{List, [], _∷_}
 use native.Mathlib.Decide.{decLt}
@@ -12,7 +12,6 @@ use Rattle.lines.proofs.Digit.{lines-equal}
 use Rattle.lut.specs.Table.{oneIf}
 use Rattle.lut.specs.Answer.{hitOrMiss, answerHit}
 use Rattle.lut.specs.declared.Answer.{Answer}
-use Rattle.lut.specs.declared.Input.{Input}
 use Rattle.lut.specs.declared.Input.the-variants.{Nothing, Sample, Samples, Sources}
 use Rattle.lut.proofs.Runs.{run-needed}
 use Rattle.peek.specs.Bytes.{Bytes}
@@ -30,17 +29,16 @@ use Rattle.sum.specs.Words as sum-words
 use Rattle.sum.specs.Description as sum
 use Rattle.sum.specs.Meaning.{sumMeans}
 use Rattle.buffer.specs.declared.Verdict.the-variants.{Accepted}
-use Rattle.kinds.specs.Table.{sections, kindOf, wordsOf, showsOf, chainCount, chainLength, TERMS, RANGES, EDGES, SUMS, STATES}
-use Rattle.kinds.proofs.Ways.{words-count, chains-flat}
+use Rattle.kinds.specs.Table.{sections, kindOf, wordsOf, showsOf, TERMS, RANGES, EDGES, SUMS, STATES}
+use Rattle.kinds.proofs.Ways.{chains-flat}
 use Rattle.records.specs.Sections.{descriptionOf}
 use Rattle.sheet.specs.Reading.{verdict}
 use Rattle.sheet.specs.Parsed.{recordWith, AcceptedDescription}
 use Rattle.sheet.proofs.Slots.{description-bytes, description-whole, description-sound}
 use Rattle.sheet.proofs.Theorems.{description-iff}
-use Rattle.compiler.specs.Chains.{chainWordsOf}
 use Rattle.compiler.proofs.Theorems.{term-hits, range-hits, edge-hits, sum-hits, state-words}
 use Rattle.programme.specs.Programme.{wordsFor, programmeOf}
-use Rattle.programme.specs.Machine.{Machine, sourcesBy, throughWords, shownBy, shown, byRules, Agree}
+use Rattle.programme.specs.Machine.{sourcesBy, throughWords, shownBy, byRules, Agree}
 
 -- ---- sixteen sources are equal where each of them is
 

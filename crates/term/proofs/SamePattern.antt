@@ -29,7 +29,7 @@ use Rattle.term.proofs.PlainRule.{term-masked}
 use Rattle.term.proofs.LeastSample.{cut-within, lowest, below-alike, lowest-tells, Tells}
 use Rattle.term.proofs.ReadingBack.{read-words, term-words-cut}
 use Rattle.term.proofs.Hits.{term-hits}
-use Rattle.lut.proofs.Asked.{alike-on-samples, alike-iff}
+use Rattle.lut.proofs.Asked.{alike-on-samples}
 
 -- a sample tells two patterns apart, and no lesser one does
 pub record LeastApart (f g : ℕ → Bool) (sample : ℕ) : Type 0 where

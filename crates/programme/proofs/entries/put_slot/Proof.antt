@@ -1,7 +1,5 @@
 -- `put_slot` meets its contract, with a record and without. Assumes nothing.
-use mathlib.Core.List.{List}
 use mathlib.Core.Path.{ap, _∙_}
-use Prim.Native.Nat.{ℕ}
 use denote.Ref.{now}
 use Rattle.buffer.proofs.Writing.{delivers}
 use Rattle.kinds.specs.Table.{entryOf}
