@@ -11,13 +11,10 @@ use lib.Pow.{pow-mono}
 use Rattle.lines.specs.Line.{fromLines}
 use Rattle.lines.proofs.Digit.{lines-equal, lines-next, from-lines-lt}
 use Rattle.lut.specs.Table.{oneIf}
+use Rattle.lut.proofs.Tables.{one-lt}
 use Rattle.programme.specs.Machine.{sourcesBy}
 use Rattle.programme.specs.Table.{termAt, rangeAt, edgeAt, plain}
 use Rattle.bench.specs.Asking.{sourceAt, sourcesFrom}
-
-one-lt : (b : Bool) → oneIf b < 2
-one-lt true = omega arith
-one-lt false = omega arith
 
 either-lt : (b : Bool) (x y : ℕ) → x < 2 → y < 2 → cond b x y < 2
 either-lt true x y hx hy = hx

@@ -1,7 +1,7 @@
 -- The lines that ask for an event come out of the words of accepted lines as they went in; and the loop that gathers them. Assumes nothing.
 use Prim.Native.Nat.{ℕ, zero, suc, _+_, _*_, _/_, _%_, _^_, _<_, _≤_}
 use mathlib.Core.Path.{_≡_, ap, ap₂, _∙_}
-use mathlib.Core.Bool.{Bool, true, false}
+use mathlib.Core.Bool.{true}
 use mathlib.Core.List.{List, [], _∷_}
 use native.Mathlib.Nat.{lt-of-lt-of-le, div-one, add-zero, add-mul, mul-assoc, add-assoc}
 use native.Mathlib.Numerals.{add-one}
@@ -15,8 +15,9 @@ use lib.Seq.{drop-cons}
 use Rattle.lines.specs.Line.{line}
 use Rattle.lines.proofs.Digit.{line-up}
 use Rattle.lines.proofs.Over.{every-at}
-use Rattle.lut.specs.Table.{high, low, oneIf, down}
+use Rattle.lut.specs.Table.{high, low, down}
 use Rattle.lut.proofs.Halves.{high-half, low-half}
+use Rattle.lut.proofs.Tables.{one-lt}
 use Rattle.edge.specs.declared.Edge.{Edge}
 use Rattle.edge.specs.declared.Event.{Event}
 use Rattle.edge.specs.Rule.{lineAccepted, edgeAccepted}
@@ -29,11 +30,7 @@ use Rattle.edge.proofs.Pair.{two-lines, pair-lt, pair-read}
 
 pub covers-lt : (t w : ℕ) → covers t w < 2
 unfolding covers
-covers-lt t w = go (eqb (bitAnd t w) w)
-  where
-    go : (b : Bool) → oneIf b < 2
-    go true = omega arith
-    go false = omega arith
+covers-lt t w = one-lt (eqb (bitAnd t w) w)
 
 pub word-wish-lt : (u d w : ℕ) → wordWish u d w < 16
 word-wish-lt u d w = omega (arith, covers-lt (high w) u, covers-lt (high w) d, covers-lt (low w) u, covers-lt (low w) d)

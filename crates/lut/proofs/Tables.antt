@@ -1,4 +1,4 @@
--- A lookup table made bit by bit. Assumes nothing.
+-- A test's answer as a number, and a lookup table made of such numbers bit by bit. Assumes nothing.
 use mathlib.Core.Path.{_≡_, _∙_, refl, sym, ap}
 use mathlib.Core.Bool.{Bool, true, false}
 use Prim.Native.Nat.{ℕ, zero, suc, _+_, _*_, _/_, _%_, _^_, _<_}
@@ -6,11 +6,20 @@ use native.Mathlib.Nat.{two-pow-succ, add-comm, add-zero, zero-mul, one-mul}
 use native.Mathlib.Decide.{ℕ-discrete}
 use native.Mathlib.Numerals.{add-one}
 use native.Mathlib.Omega.{arith}
-use lib.Dec.{lit<}
+use lib.Dec.{eqb, lit<}
 use lib.Pow.{pow-mono, high, low}
 use Rattle.lines.specs.Line.{line}
 use Rattle.lines.proofs.Digit.{line-mod, shifted-one}
 use Rattle.lut.specs.Table.{answerAt, oneIf, tableOf}
+
+-- a test's answer as a number, and back
+pub one-is : (b : Bool) → eqb (oneIf b) 1 ≡ b
+one-is true = refl
+one-is false = refl
+
+pub one-lt : (b : Bool) → oneIf b < 2
+one-lt true = lit< tt
+one-lt false = lit< tt
 
 -- a table of n addresses has n bits
 bit-fits : (b : Bool) (x p : ℕ) → x < p → x + oneIf b * p < p + p

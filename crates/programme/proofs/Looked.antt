@@ -12,6 +12,7 @@ use lib.ListN.{getD}
 use Rattle.lines.specs.Line.{line}
 use Rattle.lines.proofs.Over.{any-none}
 use Rattle.lut.specs.Table.{oneIf}
+use Rattle.lut.proofs.Tables.{one-is}
 use Rattle.lut.specs.declared.Input.the-variants.{Nothing, Sample, Samples, Sources}
 use Rattle.peek.specs.Bytes.{Bytes}
 use Rattle.peek.proofs.Numbers.{u32-small}
@@ -33,7 +34,7 @@ use Rattle.programme.specs.Machine.{shownBy, shown, byRules, Agree}
 use Rattle.programme.specs.Table.{entryFor, tableOf, at, termAt, spreadHit, rangeAt, edgeAt, sixAt, plain}
 use Rattle.programme.proofs.Order.{spread-hits}
 use Rattle.programme.proofs.Lookup.{before, entry-at}
-use Rattle.programme.proofs.Rules.{sources-same, there, one-is}
+use Rattle.programme.proofs.Rules.{sources-same, there}
 
 -- ---- an entry answers as the record's plain rule does; that of no record never hits
 

@@ -14,6 +14,7 @@ use Rattle.lut.specs.Answer.{hitOrMiss, answerHit}
 use Rattle.lut.specs.declared.Answer.{Answer}
 use Rattle.lut.specs.declared.Input.the-variants.{Nothing, Sample, Samples, Sources}
 use Rattle.lut.proofs.Runs.{run-needed}
+use Rattle.lut.proofs.Tables.{one-is}
 use Rattle.peek.specs.Bytes.{Bytes}
 use Rattle.term.specs.Rule as term-rule
 use Rattle.term.specs.Description as term
@@ -60,10 +61,6 @@ sources-same t t′ r r′ e e′ ht hr he = lines-equal 16 _ _ (λ i h. go i (d
 hit-number : (b : Bool) → answerHit (hitOrMiss b) ≡ oneIf b
 hit-number true = refl
 hit-number false = refl
-
-pub one-is : (b : Bool) → eqb (oneIf b) 1 ≡ b
-one-is true = refl
-one-is false = refl
 
 answers : (a : Answer) (b : Bool) → a ≡ hitOrMiss b → answerHit a ≡ oneIf b
 answers a b e = ap answerHit e ∙ hit-number b

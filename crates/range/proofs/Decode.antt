@@ -21,6 +21,7 @@ use Rattle.compare.proofs.Compare.{same-true, same-equal}
 use Rattle.lut.specs.Table.{oneIf}
 use Rattle.lut.specs.Back.{ReadNumbered}
 use Rattle.lut.proofs.Numbers.{numbered-read, numbered-refused}
+use Rattle.lut.proofs.Tables.{one-lt}
 use Rattle.range.specs.declared.Range.{Range}
 use Rattle.range.specs.declared.ReadRange.{ReadRange}
 use Rattle.range.specs.declared.ReadRange.the-variants as ReadRange
@@ -34,10 +35,6 @@ use Rattle.range.proofs.Carry.{lower-fits, upper-fits, lower-value, upp
 -- two ranges are equal by their numbers
 pub range-path : (a b : Range) → a .lower ≡ b .lower → a .upper ≡ b .upper → a .mask ≡ b .mask → a ≡ b
 range-path a b p q r = λ i. record { lower = p i; upper = q i; mask = r i }
-
-pub one-if-lt : (b : Bool) → oneIf b < 2
-one-if-lt true = omega arith
-one-if-lt false = omega arith
 
 -- ---- a chain's lines
 
@@ -58,7 +55,7 @@ unfolding linesWith
 mask-back mask value hm =
     let t = scattered 32 value mask in
     let test : ℕ → ℕ = λ i. oneIf (eqb (tableAt (chainWords mask value) i) 0xFFFF) in
-    lines-not 32 test (λ i. one-if-lt (eqb (tableAt (chainWords mask value) i) 0xFFFF))
+    lines-not 32 test (λ i. one-lt (eqb (tableAt (chainWords mask value) i) 0xFFFF))
     ∙ from-lines 32 mask (λ i. 1 - test i)
     (λ i h. ap (λ (x : ℕ). 1 - oneIf (eqb x 0xFFFF)) (table-at mask value i h) ∙ mask-bit (line mask i) (line t i) (bit-lt (mask / 2 ^ i)))
     hm

@@ -11,6 +11,7 @@ use Rattle.lines.specs.Line.{line}
 use Rattle.lines.proofs.Computed.{digits, everyWithin, Within, every-within}
 use Rattle.lut.specs.Table.{answerAt, oneIf}
 use Rattle.lut.proofs.Halves.{low-half}
+use Rattle.lut.proofs.Tables.{one-is, one-lt}
 use Rattle.sum.specs.Operation.{pairOps, midOps, finalOps, opWord, codesAccepted}
 use Rattle.sum.specs.Meaning.{pairMeans, midMeans, finalMeans, isOn, groupMeans, sumMeans}
 use Rattle.sum.specs.Words.{joined, wordsOf}
@@ -18,14 +19,6 @@ use Rattle.sum.specs.Model.{firstPairs, lastPairs, pairAt, inputsOf, sum
 use Rattle.sum.proofs.Tables.{pairs, mids, finals, op-word-lt, joined-high, joined-low, code-at}
 
 -- a line or an answer as a truth value and back
-on-one : (b : Bool) → eqb (oneIf b) 1 ≡ b
-on-one true = refl
-on-one false = refl
-
-one-lt : (b : Bool) → oneIf b < 2
-one-lt true = lit< tt
-one-lt false = lit< tt
-
 digit-on : (d : ℕ) → d < 2 → d ≡ oneIf (eqb d 1)
 digit-on zero h = refl
 digit-on (suc zero) h = refl
@@ -47,7 +40,7 @@ module _ (ops : List ℕ) (means : ℕ → Bool → Bool → Bool → Bool → B
       : answerAt (opWord ops code) (oneIf p + 2 * oneIf q + 4 * oneIf r + 8 * oneIf s)
       ≡ oneIf (means code (eqb (oneIf p) 1) (eqb (oneIf q) 1) (eqb (oneIf r) 1) (eqb (oneIf s) 1)) =
       eqb→eq _ _ (every-within (10 ∷ bounds) answersRight t (code ∷ oneIf p ∷ oneIf q ∷ oneIf r ∷ oneIf s ∷ []) (omega arith, w)) in
-      rw (on-one p, on-one q, on-one r, on-one s) at told
+      rw (one-is p, one-is q, one-is r, one-is s) at told
 
 -- a pair's table has two inputs for each of its two sources, and a source counts where both are 1 [M7, W16]
 pub pair-words-mean : (code : ℕ) → code ≤ 9 → (p q r s : Bool)
@@ -123,4 +116,4 @@ sum-model b s ok =
     ap₂ (λ (x y : ℕ). eqb (answerAt x y) 1) (low-half 0 (opWord finalOps (g 10)) (op-word-lt finalOps finals (g 10)))
     (ap₂ (λ (x y : ℕ). x + 2 * y) first last)
     ∙ ap (λ (x : ℕ). eqb x 1) (final-words-mean (g 10) (c 10) m1 m2)
-    ∙ on-one (finalMeans (g 10) m1 m2)
+    ∙ one-is (finalMeans (g 10) m1 m2)

@@ -1,6 +1,6 @@
 -- The model over the words of a pattern hits exactly where the plain rule does. Assumes nothing.
 use mathlib.Core.Path.{_≡_, refl, sym, ap, ap₂, _∙_}
-use mathlib.Core.Bool.{Bool, true, false, _&&_, and-comm}
+use mathlib.Core.Bool.{true, _&&_, and-comm}
 use Prim.Native.Nat.{ℕ, zero, suc, _+_, _*_, _/_, _%_, _^_, _<_}
 use native.Mathlib.Omega.{arith}
 use lib.Dec.{eqb, lit<}
@@ -8,9 +8,9 @@ use lib.ListN.{length, getD}
 use Rattle.lines.specs.Line.{overLines}
 use Rattle.lines.proofs.Digit.{line-mod}
 use Rattle.lines.proofs.Over.{lines-cong}
-use Rattle.lut.specs.Table.{answerAt, oneIf, high, low, down}
+use Rattle.lut.specs.Table.{answerAt, high, low, down}
 use Rattle.lut.proofs.Halves.{high-half, low-half}
-use Rattle.lut.proofs.Tables.{table-lt, table-answer}
+use Rattle.lut.proofs.Tables.{one-is, table-answer, table-lt}
 use Rattle.lut.proofs.Down.{length-down, down-lt}
 use Rattle.term.specs.Rule.{linesHit, termHit}
 use Rattle.term.specs.Words.{addressHit, nibbleTable, chainWord, wordAt, termWords}
@@ -25,15 +25,11 @@ lines-nibble t m s =
     lines-cong _&&_ true 4 _ _ (λ i h. rw (line-mod t 4 i h, line-mod m 4 i h, line-mod s 4 i h))
 
 -- the table's rule: the formula at the address [W5]
-answers : (b : Bool) → eqb (oneIf b) 1 ≡ b
-answers true = refl
-answers false = refl
-
 pub nibble-hit : (t m s : ℕ) → eqb (answerAt (nibbleTable (t % 16) (m % 16)) (s % 16)) 1 ≡ linesHit 4 t m s
 unfolding nibbleTable
 nibble-hit t m s =
     ap (λ (x : ℕ). eqb x 1) (table-answer (addressHit (t % 16) (m % 16)) 16 (s % 16) (omega arith))
-    ∙ answers (addressHit (t % 16) (m % 16) (s % 16))
+    ∙ one-is (addressHit (t % 16) (m % 16) (s % 16))
     ∙ lines-formula 4 (t % 16) (m % 16) (s % 16) (omega arith) (omega arith) (omega arith)
     ∙ lines-nibble t m s
 

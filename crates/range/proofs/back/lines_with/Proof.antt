@@ -14,7 +14,7 @@ use Rattle.lines.proofs.Digit.{lines-equal, lines-next, from-lines-lt}
 use Rattle.lut.specs.Table.{oneIf}
 use Rattle.range.specs.Model.{tableAt}
 use Rattle.range.specs.Back.{linesWith}
-use Rattle.range.proofs.Decode.{one-if-lt}
+use Rattle.lut.proofs.Tables.{one-lt}
 use Rattle.range.proofs.back.lines_with.Statement.{statement}
 use Rattle.range.proofs.back.lines_with.Tie as tie
 
@@ -44,7 +44,7 @@ more table chain i found b h l e eb =
 room : (table : ℕ) (chain : List ℕ) (i found : ℕ) → 0 < i → i ≤ 32 → found ≡ above table chain i → found < 2 ^ 31
 room table chain i found h l e =
     rw e
-    (lt-of-lt-of-le (from-lines-lt (32 - i) (λ j. bit table chain (j + i)) (λ j. one-if-lt (eqb (tableAt chain (j + i)) table)))
+    (lt-of-lt-of-le (from-lines-lt (32 - i) (λ j. bit table chain (j + i)) (λ j. one-lt (eqb (tableAt chain (j + i)) table)))
     (pow-mono {i = 32 - i} {j = 31} (omega arith)))
 
 loop-holds : tie.Need-loop-holds Inv-loop μ-loop
