@@ -8,6 +8,7 @@ use borrow.Author.Tests.{eq-eqb, ne-eqb, eqb-true}
 use lib.Dec.{eqb, ltb}
 use lib.ListN.{length, getD}
 use lib.Seq.{sets}
+use Rattle.lut.specs.Table.{oneIf}
 use Rattle.buffer.specs.declared.Outcome.the-variants as Outcome
 use Rattle.buffer.proofs.Writing.{stored, fill-all}
 use Rattle.lines.proofs.Truth.{both-true}
@@ -18,7 +19,7 @@ use Rattle.bench.specs.declared.Benched.{Benched}
 use Rattle.bench.specs.declared.Benched.the-variants.{Done, Refused}
 use Rattle.bench.specs.Run.{startAccepted}
 use Rattle.bench.specs.Call.{machineOf, benched, benchedLeft}
-use Rattle.bench.specs.Handed.{isRun, noRun, runOf, flagOf, earlierWords, wordsOf, handedBy, outcomeOf}
+use Rattle.bench.specs.Handed.{isRun, noRun, runOf, earlierWords, wordsOf, handedBy, outcomeOf}
 use Rattle.bench.proofs.Succeeding.{bench-did}
 
 -- whether the flags are 0 or 1, and no earlier word stands where there is none
@@ -54,9 +55,9 @@ pair-of Nothing rest = refl
 pair-of (Word w) rest = refl
 
 pub run-stored : (ws : List ℕ) (r : Run) → length ws ≡ 5
-    → sets ws 0 (r .state ∷ r .count ∷ getD (earlierWords (r .earlier) []) 0 0 ∷ getD (earlierWords (r .earlier) []) 1 0 ∷ flagOf (r .ended) ∷ []) ≡ wordsOf r
+    → sets ws 0 (r .state ∷ r .count ∷ getD (earlierWords (r .earlier) []) 0 0 ∷ getD (earlierWords (r .earlier) []) 1 0 ∷ oneIf (r .ended) ∷ []) ≡ wordsOf r
 run-stored ws r l =
-    all-stored ws _ l refl ∙ ap (λ (t : List ℕ). r .state ∷ r .count ∷ t) (pair-of (r .earlier) (flagOf (r .ended) ∷ []))
+    all-stored ws _ l refl ∙ ap (λ (t : List ℕ). r .state ∷ r .count ∷ t) (pair-of (r .earlier) (oneIf (r .ended) ∷ []))
 
 -- ---- the call for a run in words, which the call on the run that they are has answered
 

@@ -1,26 +1,26 @@
 -- How the body asks a table: a sample's sources from the highest down, and its sums at addresses that are made once.
 use Prim.Native.Nat.{ℕ, _+_, _-_, _*_, _/_, _%_}
-use mathlib.Core.Bool.{Bool, cond}
+use mathlib.Core.Bool.{Bool}
 use mathlib.Core.List.{List}
-use lib.Dec.{eqb, ltb}
+use lib.Dec.{eqb}
 use lib.ListN.{getD}
-use Rattle.lines.specs.Line.{line, fromLines}
+use Rattle.lines.specs.Line.{fromLines}
 use Rattle.lut.specs.Table.{answerAt, high, low, oneIf}
-use Rattle.sum.specs.Model.{firstPairs, lastPairs}
+use Rattle.sum.specs.Model.{firstPairs, lastPairs, pairAddress}
+use Rattle.programme.specs.Machine.{sourceBy}
 use Rattle.programme.specs.Table.{termAt, rangeAt, edgeAt}
 
 -- source i on an earlier word and a sample, 1 or 0 [M6, R2, R11]
 unfoldable pub sourceAt : (table : List ℕ) (earlier sample i : ℕ) → ℕ
-sourceAt t e s i =
-    cond (ltb i 10) (oneIf (termAt t s i)) (cond (ltb i 12) (oneIf (rangeAt t s (i - 10))) (cond (ltb i 14) (oneIf (edgeAt t e s (i - 12))) 0))
+sourceAt t e s = sourceBy (λ i. oneIf (termAt t s i)) (λ i. oneIf (rangeAt t s i)) (λ i. oneIf (edgeAt t e s i))
 
 -- the sources from i to 15, source i at bit 0; computed [M6, B6]
 abbrev pub sourcesFrom : (table : List ℕ) (earlier sample i : ℕ) → ℕ
 sourcesFrom t e s i = fromLines (16 - i) (λ j. sourceAt t e s (j + i))
 
--- where a pair's table is asked [M7]
+-- where a pair's table is asked, shut, so that its bound is all that is seen of it [M7]
 unfoldable pub addressAt : (sources a b : ℕ) → ℕ
-addressAt s a b = 3 * line s a + 12 * line s b
+addressAt s a b = pairAddress s a b
 
 -- the addresses of four pairs, four bits each, the first lowest; computed [M7, B6]
 abbrev pub fourOf : (sources : ℕ) (pairs : List ℕ) → ℕ

@@ -1,9 +1,10 @@
 -- A run in numbers, for C and Rust: five words.
 use Prim.Native.Nat.{ℕ}
-use mathlib.Core.Bool.{Bool, true, false, cond, _&&_, _||_}
+use mathlib.Core.Bool.{Bool, false, cond, _&&_, _||_}
 use mathlib.Core.List.{List, [], _∷_}
 use lib.Dec.{eqb, ltb}
 use lib.ListN.{length, getD}
+use Rattle.lut.specs.Table.{oneIf}
 use Rattle.bench.specs.declared.Earlier.{Earlier}
 use Rattle.bench.specs.declared.Earlier.the-variants.{Nothing, Word}
 use Rattle.bench.specs.declared.Run.{Run}
@@ -34,11 +35,6 @@ runOf ws =
     })
     noRun
 
--- a flag as a number [A13]
-abbrev pub flagOf : Bool → ℕ
-flagOf true = 1
-flagOf false = 0
-
 -- whether there is an earlier word, and that word, 0 where there is none [A13]
 abbrev pub earlierWords : Earlier → List ℕ → List ℕ
 earlierWords Nothing rest = 0 ∷ 0 ∷ rest
@@ -46,7 +42,7 @@ earlierWords (Word w) rest = 1 ∷ w ∷ rest
 
 -- the words of a run [A13]
 abbrev pub wordsOf : Run → List ℕ
-wordsOf r = r .state ∷ r .count ∷ earlierWords (r .earlier) (flagOf (r .ended) ∷ [])
+wordsOf r = r .state ∷ r .count ∷ earlierWords (r .earlier) (oneIf (r .ended) ∷ [])
 
 -- the words after a call: those of the run that is handed on; as they were after a refusal [A13, A2]
 abbrev pub handedBy : Benched → (words : List ℕ) → List ℕ

@@ -32,15 +32,15 @@ abbrev pub earlierOf : Earlier → (sample : ℕ) → ℕ
 earlierOf Nothing sample = sample
 earlierOf (Word w) sample = w
 
--- the slots of a state's three sums: hit, else, capture [R4, S5]
+-- the slot of a state's hit sum, which is part 0 [R4, S5]
 abbrev pub hitSlot : (state : ℕ) → ℕ
 hitSlot state = 3 * state + 0
 
--- the slot of its else sum [R4, S5]
+-- the slot of its else sum, part 1 [R4, S5]
 abbrev pub elseSlot : (state : ℕ) → ℕ
 elseSlot state = 3 * state + 1
 
--- the slot of its capture sum [R4, S5]
+-- the slot of its capture sum, part 2 [R4, S5]
 abbrev pub captureSlot : (state : ℕ) → ℕ
 captureSlot state = 3 * state + 2
 

@@ -4,9 +4,10 @@ ghost use mathlib.Core.Bool.{cond, _&&_, _||_};
 ghost use mathlib.Core.List.{[]};
 ghost use lib.Dec.{eqb, ltb};
 ghost use lib.ListN.{length, getD};
+ghost use Rattle.lut.specs.Table.{oneIf};
 ghost use Rattle.bench.specs.declared.Earlier.the-variants.{Nothing, Word};
 ghost use Rattle.bench.specs.Call.{benched, benchedLeft};
-ghost use Rattle.bench.specs.Handed.{noRun, runOf, flagOf, earlierWords, wordsOf, handedBy, outcomeOf};
+ghost use Rattle.bench.specs.Handed.{noRun, runOf, earlierWords, wordsOf, handedBy, outcomeOf};
 use crate::Benched;
 use crate::Earlier;
 use crate::Run;
@@ -68,7 +69,7 @@ fn run_of(words: &[u32]) -> Run
 }
 
 fn flag_of(b: bool) -> u32
-    ensures { λ r. ⌜ r ≡ flagOf b ⌝ }
+    ensures { λ r. ⌜ r ≡ oneIf b ⌝ }
 {
     if b { 1 } else { 0 }
 }

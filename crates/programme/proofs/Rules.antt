@@ -1,12 +1,12 @@
 -- The chain words of an accepted sheet, run in the model, answer as its plain rules do. Assumes nothing.
 use Prim.Native.Nat.{ℕ, suc, _-_, _<_}
 use mathlib.Core.Path.{_≡_, refl, ap, _∙_}
-use mathlib.Core.Bool.{Bool, true, false, cond}
+use mathlib.Core.Bool.{Bool, true, false}
 use mathlib.Core.List.{List, [], _∷_}
 use native.Mathlib.Decide.{decLt}
 use native.Mathlib.Omega.{arith}
 use borrow.Author.Tests.{lt-ltb, le-ltb}
-use lib.Dec.{eqb, ltb, lit<}
+use lib.Dec.{eqb, lit<}
 use lib.ListN.{length, getD}
 use Rattle.lines.proofs.Digit.{lines-equal}
 use Rattle.lut.specs.Table.{oneIf}
@@ -39,7 +39,7 @@ use Rattle.sheet.proofs.Slots.{description-bytes, description-whole, descriptio
 use Rattle.sheet.proofs.Theorems.{description-iff}
 use Rattle.compiler.proofs.Theorems.{term-hits, range-hits, edge-hits, sum-hits, state-words}
 use Rattle.programme.specs.Programme.{wordsFor, programmeOf}
-use Rattle.programme.specs.Machine.{sourcesBy, throughWords, shownBy, byRules, Agree}
+use Rattle.programme.specs.Machine.{sourceBy, sourcesBy, throughWords, shownBy, byRules, Agree}
 
 -- ---- sixteen sources are equal where each of them is
 
@@ -48,15 +48,13 @@ pub sources-same : (t t′ r r′ e e′ : ℕ → ℕ) → ((i : ℕ) → i < 1
 unfolding sourcesBy
 sources-same t t′ r r′ e e′ ht hr he = lines-equal 16 _ _ (λ i h. go i (decLt i 10) (decLt i 12) (decLt i 14))
   where
-    go : (i : ℕ) → Dec (i < 10) → Dec (i < 12) → Dec (i < 14)
-        → cond (ltb i 10) (t i) (cond (ltb i 12) (r (i - 10)) (cond (ltb i 14) (e (i - 12)) 0))
-        ≡ cond (ltb i 10) (t′ i) (cond (ltb i 12) (r′ (i - 10)) (cond (ltb i 14) (e′ (i - 12)) 0))
+    go : (i : ℕ) → Dec (i < 10) → Dec (i < 12) → Dec (i < 14) → sourceBy t r e i ≡ sourceBy t′ r′ e′ i
     go i (yes a) b c = rw (lt-ltb i 10 a) (ht i a)
     go i (no a) (yes b) c = rw (le-ltb i 10 (omega arith), lt-ltb i 12 b) (hr (i - 10) (omega arith))
     go i (no a) (no b) (yes c) = rw (le-ltb i 10 (omega arith), le-ltb i 12 (omega arith), lt-ltb i 14 c) (he (i - 12) (omega arith))
     go i (no a) (no b) (no c) = rw (le-ltb i 10 (omega arith), le-ltb i 12 (omega arith), le-ltb i 14 (omega arith))
 
--- ---- a record by record: its words in the model, and the plain rule
+-- ---- record by record: its words in the model, and the plain rule
 
 hit-number : (b : Bool) → answerHit (hitOrMiss b) ≡ oneIf b
 hit-number true = refl

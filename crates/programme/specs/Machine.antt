@@ -25,10 +25,14 @@ pub record Machine : Type 0 where
   pub matches : (slot sources : ℕ) → Bool
   pub word : (state : ℕ) → ℕ
 
--- sixteen sources as a number: ten terms, two ranges, two edges, each 1 or 0 by its slot; the two timers are 0 [M6, R2]
+-- source i, 1 or 0: ten terms, two ranges, two edges, each by its slot; the two timers are 0 [M6, R2]
+abbrev pub sourceBy : (terms ranges edges : ℕ → ℕ) (i : ℕ) → ℕ
+sourceBy terms ranges edges i =
+    cond (ltb i 10) (terms i) (cond (ltb i 12) (ranges (i - 10)) (cond (ltb i 14) (edges (i - 12)) 0))
+
+-- all sixteen as a number, source i at bit i [M6, R2]
 unfoldable pub sourcesBy : (terms ranges edges : ℕ → ℕ) → ℕ
-sourcesBy terms ranges edges =
-    fromLines 16 (λ i. cond (ltb i 10) (terms i) (cond (ltb i 12) (ranges (i - 10)) (cond (ltb i 14) (edges (i - 12)) 0)))
+sourcesBy terms ranges edges = fromLines 16 (sourceBy terms ranges edges)
 
 -- a programme run through its chain words: each source and each sum as the model answers, where a slot without words
 -- has the wrong count and so never hits; a missing state's word is 1: number 1, else state 0, no flags [M1, R2, R4, R5]

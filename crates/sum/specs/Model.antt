@@ -20,9 +20,13 @@ firstPairs = 0 ∷ 1 ∷ 2 ∷ 10 ∷ 3 ∷ 12 ∷ 4 ∷ 14 ∷ []
 abbrev pub lastPairs : List ℕ
 lastPairs = 5 ∷ 6 ∷ 7 ∷ 11 ∷ 8 ∷ 13 ∷ 9 ∷ 15 ∷ []
 
--- what a pair's table answers: A at its two lower inputs, B at its two upper ones [M7]
+-- where a pair's table is asked: A is at its two lower inputs, B at its two upper ones [M7]
+abbrev pub pairAddress : (sources a b : ℕ) → ℕ
+pairAddress s a b = 3 * line s a + 12 * line s b
+
+-- what a pair's table answers there [M7]
 abbrev pub pairAt : (table sources a b : ℕ) → ℕ
-pairAt t s a b = answerAt t (3 * line s a + 12 * line s b)
+pairAt t s a b = answerAt t (pairAddress s a b)
 
 -- four pairs as the inputs of a mid; two words have their tables, the lower half first [M8, W14]
 unfoldable pub inputsOf : (pairs : List ℕ) (first second sources : ℕ) → ℕ
