@@ -164,8 +164,9 @@ static struct heard hear(enum stage stage, unsigned address)
     }
     if (stage == MID) /* four voices; A is either of the first two, B either of the last two */
         return (struct heard){4, speaking, in[0] || in[1], in[2] || in[3]};
-    /* two voices; A is the first without the second, B the second without the first: the words 0002 and 0004 say so */
-    return (struct heard){2, speaking, in[0] && !in[1], in[1] && !in[0]};
+    /* two voices; A is the first and B the second, whatever the other says. These two words, 000A and 000C, are the
+       buyer's fourth request; the listing's, 0002 and 0004, are silent where both speak. All other words are the listing's. */
+    return (struct heard){2, speaking, in[0], in[1]};
 }
 
 static int gate_answers(const void *wanted, unsigned address)

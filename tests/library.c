@@ -216,6 +216,14 @@ static void model(void) {
     expect(voltamar_run_sum(sum, 6, 0, &hit, &place) == 0 && hit == 1 && place == 0, "run_sum: final AND of two that answer always");
     sum[1] = 0xFFFF0000;
     expect(voltamar_run_sum(sum, 6, 0xFFFF, &hit, &place) == 0 && hit == 0 && place == 0, "run_sum: mid1 never");
+    sum[0] = 0x000A;
+    expect(voltamar_run_sum(sum, 6, 0, &hit, &place) == 0 && hit == 0, "run_sum: final A, where mid1 says no");
+    sum[0] = 0x000C;
+    expect(voltamar_run_sum(sum, 6, 0, &hit, &place) == 0 && hit == 1, "run_sum: final B, where mid2 says yes");
+    sum[1] = 0xFFFFFFFF;
+    expect(voltamar_run_sum(sum, 6, 0, &hit, &place) == 0 && hit == 1, "run_sum: final B, though mid1 says yes too");
+    sum[0] = 0x000A;
+    expect(voltamar_run_sum(sum, 6, 0, &hit, &place) == 0 && hit == 1, "run_sum: final A, though mid2 says yes too");
     expect(voltamar_run_sum(NULL, 0, 0, &hit, &place) == 17 && hit == 0 && place == 6, "run_sum: 17");
 }
 

@@ -150,3 +150,44 @@ fn sums_agree_on_all_sources() {
         }
     }
 }
+
+const NOP: u8 = 0;
+const OR: u8 = 4;
+const A: u8 = 8;
+const B: u8 = 9;
+
+/// The words that the proved compiler sends for a sum.
+fn sent(operations: [u8; 11]) -> Vec<u32> {
+    let sheet = [&[0, 0, 0, 1, 0][..], b"A SUM   ", &operations, &[0]].concat();
+    let mut commands = [0; voltamar::LONGEST_STREAM];
+    let length = voltamar::compile(&sheet, &mut commands).expect("accepted, with room");
+    let number = |command: &[u8]| u32::from_le_bytes([command[1], command[2], command[3], command[4]]);
+    commands[..length].chunks(5).skip(1).map(number).collect()
+}
+
+/// With A as its last operation a sum is its first half, with B its second, whatever the other half says: the same as
+/// OR of that half and of nothing.
+#[test]
+fn final_a_and_b_are_one_half() {
+    let mut random = Random(0x2545_F491_4F6C_DD1D);
+    let mut both_halves = 0;
+    for _ in 0..2_000 {
+        let operations: [u8; 11] = std::array::from_fn(|_| random.below(10) as u8);
+        let with = |mid1, mid2, last| {
+            let mut operations = operations;
+            (operations[8], operations[9], operations[10]) = (mid1, mid2, last);
+            sent(operations)
+        };
+        let (mid1, mid2) = (operations[8], operations[9]);
+        let (a, first) = (with(mid1, mid2, A), with(mid1, NOP, OR));
+        let (b, second) = (with(mid1, mid2, B), with(NOP, mid2, OR));
+        assert_eq!((a[0], b[0]), (0x000A, 0x000C));
+        for _ in 0..100 {
+            let sources = random.u32() as u16;
+            let says = |words: &[u32]| voltamar::run_sum(words, sources).expect("six words");
+            assert_eq!((says(&a), says(&b)), (says(&first), says(&second)), "{operations:?} {sources:04X}");
+            both_halves += usize::from(says(&a) && says(&b));
+        }
+    }
+    assert!(both_halves > 20_000, "{both_halves}");
+}

@@ -1,4 +1,4 @@
-// The examples that are run: each line says what is handed in and what comes of it [E9, E10].
+// The examples that are run: each line says what is handed in and what comes of it [E9, E10, E12].
 use buffer::Outcome;
 use buffer::Verdict;
 
@@ -35,6 +35,14 @@ fn say_stream(out: i32, what: &[u8], stream: &[u8]) {
     io::write_all(out, b"\n");
 }
 
+// One sum in slot 0, all of it 0 but the low byte of its first word, which has the final operation.
+fn say_final(out: i32, what: &[u8], word: u8) {
+    let mut stream =
+        *b"\x9E\x40\0\0\0\x9F\0\0\0\0\x9F\0\0\0\0\x9F\0\0\0\0\x9F\0\0\0\0\x9F\0\0\0\0\x9F\0\0\0\0";
+    stream[6] = word;
+    say_stream(out, what, &stream);
+}
+
 pub(crate) fn say_examples(out: i32) {
     // One range in slot 0 with a label of spaces.
     say_sheet(
@@ -51,4 +59,8 @@ pub(crate) fn say_examples(out: i32) {
     say_stream(out, b"select 43", b"\x9E\x43\x00\x00\x00");
     say_stream(out, b"select 120", b"\x9E\x20\x01\x00\x00");
     say_stream(out, b"select 31 first", b"\x9E\x31\x00\x00\x00");
+    say_final(out, b"final 000A", 0x0A);
+    say_final(out, b"final 000C", 0x0C);
+    say_final(out, b"final 0002", 0x02);
+    say_final(out, b"final 0004", 0x04);
 }

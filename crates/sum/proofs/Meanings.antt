@@ -13,7 +13,7 @@ use Rattle.lut.specs.Table.{answerAt, oneIf}
 use Rattle.lut.proofs.Halves.{low-half}
 use Rattle.lut.proofs.Tables.{one-is, one-lt}
 use Rattle.sum.specs.Operation.{pairOps, midOps, finalOps, opWord, codesAccepted}
-use Rattle.sum.specs.Meaning.{pairMeans, midMeans, finalMeans, isOn, groupMeans, sumMeans}
+use Rattle.sum.specs.Meaning.{twoMeans, midMeans, isOn, groupMeans, firstHalf, secondHalf, sumMeans}
 use Rattle.sum.specs.Words.{joined, wordsOf}
 use Rattle.sum.specs.Model.{firstPairs, lastPairs, pairAt, inputsOf, sumHit}
 use Rattle.sum.proofs.Tables.{pairs, mids, finals, op-word-lt, joined-high, joined-low, code-at}
@@ -44,10 +44,10 @@ module _ (ops : List ℕ) (means : ℕ → Bool → Bool → Bool → Bool → B
 
 -- a pair's table has two inputs for each of its two sources, and a source counts where both are 1 [M7, W16]
 pub pair-words-mean : (code : ℕ) → code ≤ 9 → (p q r s : Bool)
-    → answerAt (opWord pairOps code) (oneIf p + 2 * oneIf q + 4 * oneIf r + 8 * oneIf s) ≡ oneIf (pairMeans code (p && q) (r && s))
+    → answerAt (opWord pairOps code) (oneIf p + 2 * oneIf q + 4 * oneIf r + 8 * oneIf s) ≡ oneIf (twoMeans code (p && q) (r && s))
 unfolding answersRight
 pair-words-mean code h p q r s =
-    stage-means pairOps (λ c p q r s. pairMeans c (p && q) (r && s)) (digits 4) tt code h p q r s (one-lt p, (one-lt q, (one-lt r, (one-lt s, tt))))
+    stage-means pairOps (λ c p q r s. twoMeans c (p && q) (r && s)) (digits 4) tt code h p q r s (one-lt p, (one-lt q, (one-lt r, (one-lt s, tt))))
 
 pub mid-words-mean : (code : ℕ) → code ≤ 9 → (p q r s : Bool)
     → answerAt (opWord midOps code) (oneIf p + 2 * oneIf q + 4 * oneIf r + 8 * oneIf s) ≡ oneIf (midMeans code p q r s)
@@ -56,18 +56,18 @@ mid-words-mean code h p q r s = stage-means midOps midMeans (digits 4) tt code h
 
 -- nothing drives the two inputs above [M8]
 pub final-words-mean : (code : ℕ) → code ≤ 9 → (p q : Bool)
-    → answerAt (opWord finalOps code) (oneIf p + 2 * oneIf q) ≡ oneIf (finalMeans code p q)
+    → answerAt (opWord finalOps code) (oneIf p + 2 * oneIf q) ≡ oneIf (twoMeans code p q)
 unfolding answersRight
 final-words-mean code h p q =
     let zeros : oneIf p + 2 * oneIf q ≡ oneIf p + 2 * oneIf q + 4 * oneIf false + 8 * oneIf false = omega arith in
     ap (answerAt (opWord finalOps code)) zeros
-    ∙ stage-means finalOps (λ c p q r s. finalMeans c p q) (2 ∷ 2 ∷ 1 ∷ 1 ∷ []) tt code h p q false false
+    ∙ stage-means finalOps (λ c p q r s. twoMeans c p q) (2 ∷ 2 ∷ 1 ∷ 1 ∷ []) tt code h p q false false
     (one-lt p, (one-lt q, (lit< tt, (lit< tt, tt))))
 
 -- ---- the tree
 
 -- a pair's table with its two sources
-pair-driven : (code sources a b : ℕ) → code ≤ 9 → pairAt (opWord pairOps code) sources a b ≡ oneIf (pairMeans code (isOn sources a) (isOn sources b))
+pair-driven : (code sources a b : ℕ) → code ≤ 9 → pairAt (opWord pairOps code) sources a b ≡ oneIf (twoMeans code (isOn sources a) (isOn sources b))
 pair-driven code s a b h =
     let x = line s a in
     let y = line s b in
@@ -78,12 +78,12 @@ pair-driven code s a b h =
     let e : 3 * x + 12 * y ≡ oneIf p + 2 * oneIf p + 4 * oneIf q + 8 * oneIf q = omega arith in
     ap (answerAt (opWord pairOps code)) e
     ∙ pair-words-mean code h p p q q
-    ∙ ap₂ (λ (u v : Bool). oneIf (pairMeans code u v)) (and-self p) (and-self q)
+    ∙ ap₂ (λ (u v : Bool). oneIf (twoMeans code u v)) (and-self p) (and-self q)
 
 -- a mid table over four pairs
 module _ (places : List ℕ) (s a b c d : ℕ) (ha : a ≤ 9) (hb : b ≤ 9) (hc : c ≤ 9) (hd : d ≤ 9) where
   abbrev pair : (code i j : ℕ) → Bool
-  pair code i j = pairMeans code (isOn s (getD places i 0)) (isOn s (getD places j 0))
+  pair code i j = twoMeans code (isOn s (getD places i 0)) (isOn s (getD places j 0))
 
   inputs-mean : inputsOf places (joined pairOps b a) (joined pairOps d c) s
       ≡ oneIf (pair a 0 1) + 2 * oneIf (pair b 2 3) + 4 * oneIf (pair c 4 5) + 8 * oneIf (pair d 6 7)
@@ -111,9 +111,9 @@ sum-model b s ok =
     let c : (i : ℕ) → getD b i 0 ≤ 9 = code-at b ok in
     let first = group-mean firstPairs s (g 0) (g 1) (g 2) (g 3) (c 0) (c 1) (c 2) (c 3) (g 8) _ (c 8) (joined-low midOps mids (g 9) (g 8)) in
     let last = group-mean lastPairs s (g 4) (g 5) (g 6) (g 7) (c 4) (c 5) (c 6) (c 7) (g 9) _ (c 9) (joined-high midOps mids (g 9) (g 8)) in
-    let m1 = groupMeans firstPairs s (g 8) (g 0) (g 1) (g 2) (g 3) in
-    let m2 = groupMeans lastPairs s (g 9) (g 4) (g 5) (g 6) (g 7) in
+    let m1 = firstHalf b s in
+    let m2 = secondHalf b s in
     ap₂ (λ (x y : ℕ). eqb (answerAt x y) 1) (low-half 0 (opWord finalOps (g 10)) (op-word-lt finalOps finals (g 10)))
     (ap₂ (λ (x y : ℕ). x + 2 * y) first last)
     ∙ ap (λ (x : ℕ). eqb x 1) (final-words-mean (g 10) (c 10) m1 m2)
-    ∙ one-is (finalMeans (g 10) m1 m2)
+    ∙ one-is (twoMeans (g 10) m1 m2)

@@ -41,8 +41,8 @@ pub(crate) const FINAL: [u16; 10] = [
     0x0001,
     0x0006,
     0x0009,
-    0x0002,
-    0x0004,
+    0x000A,
+    0x000C,
 ];
 
 // Whether every byte is an operation code.

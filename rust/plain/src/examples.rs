@@ -80,8 +80,9 @@ fn lift() -> Setup {
     edge(&mut s, 1, "STUCK", 0x8_0000, 0, 0x8000_0000);
     let (no, or) = ("NOP", "OR");
     //                            ab     c    d    e    fg   h    i    j    mid1   mid2 final
-    sum(&mut s, 0, 0, "S0 LOCK", ["AND", no, no, no, no, no, no, no, or, no, or]);
-    sum(&mut s, 0, 1, "S0 ALARM", [no, no, no, no, or, no, no, no, no, or, or]);
+    // one tree: the lock in its first half, the alarm in its second
+    sum(&mut s, 0, 0, "S0 LOCK", ["AND", no, no, no, or, no, no, no, or, or, "A"]);
+    sum(&mut s, 0, 1, "S0 ALARM", ["AND", no, no, no, or, no, no, no, or, or, "B"]);
     sum(&mut s, 0, 2, "S0 CAPT", [no, no, "B", no, no, no, no, no, or, no, or]);
     sum(&mut s, 1, 0, "S1 MOVE", [no, "A", "A", no, no, no, no, no, or, no, or]);
     sum(&mut s, 1, 1, "S1 ALARM", [no, no, no, or, or, no, no, no, or, or, or]);

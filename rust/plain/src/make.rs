@@ -551,11 +551,11 @@ fn damage_commands(random: &mut Random, commands: &mut Vec<[u8; 5]>) {
         9 => swap_chains(random, commands, &selects),
         10 => drop_chain(random, commands, &selects),
         11 => repeat_chain(random, commands, &selects),
-        // half words that some chain knows, in a place where another may be due
+        // half words that some chain knows, or knew (0002 and 0004), in a place where another may be due
         12..=14 if commands[word][0] == 0x9F => {
-            let known: [u16; 16] = [
-                0xFFFF, 0xAAAA, 0x5555, 0x0000, 0x8000, 0xA5A5, 0xCC33, 0xAFAF, 0xF888, 0xFEE9, 0x000E, 0x0002, 0x0A0A,
-                0x33CC, 0x0020, 0x7FFF,
+            let known: [u16; 19] = [
+                0xFFFF, 0xAAAA, 0x5555, 0x0000, 0x8000, 0xA5A5, 0xCC33, 0xAFAF, 0xF888, 0xFEE9, 0x000E, 0x000A, 0x000C,
+                0x0002, 0x0004, 0x0A0A, 0x33CC, 0x0020, 0x7FFF,
             ];
             let half = random.below(2);
             commands[word][1 + 2 * half..3 + 2 * half].copy_from_slice(&random.pick(&known).to_le_bytes());

@@ -321,6 +321,25 @@ fn sums() {
     assert_eq!(words, [0x0007, 0xEEEE0116, 0xF0008888, 0x87777888, 0x0777F888, 0x7FFF8000]);
 }
 
+/// The last operation's A and B are 000A and 000C; the words that they had before are no sum's.
+#[test]
+fn final_a_and_b() {
+    let stream = |word| [command(0x9E, 0x40), command(0x9F, word), command(0x9F, 0).repeat(5)].concat();
+    let mut out = [0x77; 40];
+    for (code, word) in [(8, 0x000A), (9, 0x000C)] {
+        assert_eq!(sum_words(&[0, 0, 0, 0, 0, 0, 0, 0, 0, 0, code]), [word, 0, 0, 0, 0, 0]);
+        assert_eq!(read(&stream(word), &mut out), Ok(25));
+        assert_eq!(out[..25], [&[0, 0, 0, 1, 0][..], b"S00     ", &[0; 10], &[code, 0]].concat());
+    }
+    out.fill(0x77);
+    for word in [0x0002, 0x0004, 0xA_0000, 0xA_000A] {
+        assert_eq!(read(&stream(word), &mut out), refusal(16, 0), "{word:04X}");
+    }
+    assert_eq!(out, [0x77; 40]);
+    // the listing's mids and pairs stay
+    assert_eq!(sum_words(&[8, 9, 8, 9, 8, 9, 8, 9, 8, 9, 0])[1..3], [0xFFF0EEEE, 0xF0008888]);
+}
+
 #[test]
 fn sizes() {
     let operations = |slot| {

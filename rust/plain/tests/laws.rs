@@ -182,7 +182,7 @@ fn reading_back_gives_what_writes_the_words() {
         assert_eq!(read_range(&range_words(lower, upper, mask)), None);
     }
     // every table: read exactly if some description writes it
-    let mut known = [0; 2];
+    let mut known = [0; 3];
     for table in 0..=0xFFFF {
         let term = (0..256).any(|both| term_words(both & 15, both >> 4)[3] & 0xFFFF == table);
         assert_eq!(read_term(&[u32::MAX, u32::MAX, u32::MAX, 0xFFFF_0000 | table]).is_some(), term);
@@ -193,8 +193,11 @@ fn reading_back_gives_what_writes_the_words() {
         });
         assert_eq!(read_edge(&[0, 0, 0, 0, 0, 0, 0, table]).is_some(), edge);
         known[1] += usize::from(edge);
+        let last = (0..10).any(|code| sum_words(&[0, 0, 0, 0, 0, 0, 0, 0, 0, 0, code])[0] == table);
+        assert_eq!(read_sum(&[table, 0, 0, 0, 0, 0]).is_some(), last);
+        known[2] += usize::from(last);
     }
-    assert_eq!(known, [81, 25]);
+    assert_eq!(known, [81, 25, 10]);
 }
 
 #[test]

@@ -219,6 +219,23 @@ fn a_missing_sum_never_matches() {
     assert_eq!(run_of(&Setup::default(), &[all; 9]), (vec![], Run { earlier: Some(all), ..FRESH }));
 }
 
+/// One tree for two sums: the hit sum is its first half and the else sum its second, also where both say yes.
+#[test]
+fn final_a_and_b_take_one_half_whatever_the_other_says() {
+    let mut setup = Setup::default();
+    add(&mut setup, 0, 0, &numbers(&[HIT, HIT])); // a, in the first half
+    add(&mut setup, 0, 5, &numbers(&[ELSE, ELSE])); // f, in the second
+    for (part, last) in [(0, A), (1, B), (2, B)] {
+        add(&mut setup, 3, part, &[A, 0, 0, 0, A, 0, 0, 0, OR, OR, last]);
+    }
+    state(&mut setup, 0, 2, 9, 0);
+    assert_eq!(after(&setup, FRESH, &[0]), (0, 0, false));
+    assert_eq!(after(&setup, FRESH, &[HIT]), (0, 1, false));
+    assert_eq!(after(&setup, FRESH, &[ELSE]), (9, 0, false));
+    assert_eq!(after(&setup, FRESH, &[HIT | ELSE]), (0, 1, false), "the hit sum comes first");
+    assert_eq!(run_of(&setup, &[0, HIT, HIT | ELSE]).0, [HIT | ELSE], "taken where the second half says yes");
+}
+
 /// Each slot's sum, which matches always, is used in its own state alone, and as its own part alone.
 #[test]
 fn slots_are_three_times_the_state_and_the_part() {
