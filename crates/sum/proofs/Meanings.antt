@@ -1,4 +1,4 @@
--- What the operation words do is what the source document says of the operations: one computed test over codes and addresses, passed by each
+-- What the operation words do is what the rules say of the operations: one computed test over codes and addresses, passed by each
 -- of the three tables; and so a sum's words, run by the model, do what the tree of its operations says. Assumes nothing.
 use Prim.Native.Nat.{ℕ, zero, suc, _+_, _*_, _≤_, _<_}
 use mathlib.Core.Path.{_≡_, refl, ap, ap₂, _∙_}

@@ -18,8 +18,7 @@ use Rattle.sum.proofs.Tables.{pairs, mids, finals, words-differ}
 use Rattle.sum.proofs.Meanings.{sum-model}
 use Rattle.sum.proofs.ReadingBack as back
 
--- over an accepted sum's words the model hits exactly when its operations do, as the source document means them
--- [W16, M8]
+-- over an accepted sum's words the model hits exactly when its operations do, as the rules mean them [W16, M8]
 pub run-hits : (ops : List ℕ) → Accepted ops → (sources : ℕ) → runSum (wordsOf ops) sources ≡ hitOrMiss (sumMeans ops sources)
 run-hits ops a s = run-needed 6 (wordsOf ops) _ _ (back.words-length ops) (sum-model ops s (a .codes))
 

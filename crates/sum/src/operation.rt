@@ -32,6 +32,7 @@ pub(crate) const MID: [u16; 10] = [
     0xFFF0,
 ];
 
+// A and B are not the listing's: each answers for one mid, whatever the other says [W15, W16].
 pub(crate) const FINAL: [u16; 10] = [
     0x0000,
     0xFFFF,
