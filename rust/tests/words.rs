@@ -152,7 +152,9 @@ fn sums_agree_on_all_sources() {
 }
 
 const NOP: u8 = 0;
+const AND: u8 = 2;
 const OR: u8 = 4;
+const NOR: u8 = 5;
 const A: u8 = 8;
 const B: u8 = 9;
 
@@ -190,4 +192,32 @@ fn final_a_and_b_are_one_half() {
         }
     }
     assert!(both_halves > 20_000, "{both_halves}");
+}
+
+/// One half without the other, as it is still to be had: AND, and the opposite of the second mid. An even code and the
+/// odd one behind it are opposites; that of A or B is NOR, with the two pairs that it leaves out set to NOP.
+#[test]
+fn the_first_half_without_the_second() {
+    let mut random = Random(0x9E37_79B9_7F4A_7C15);
+    let mut yes = 0;
+    for round in 0..2_000 {
+        let mut operations: [u8; 11] = std::array::from_fn(|_| random.below(10) as u8);
+        operations[9] = (round % 10) as u8;
+        let with = |last| sent(std::array::from_fn(|place| if place == 10 { last } else { operations[place] }));
+        let (first, second) = (with(A), with(B));
+        match operations[9] {
+            A => (operations[6], operations[7], operations[9]) = (NOP, NOP, NOR),
+            B => (operations[4], operations[5], operations[9]) = (NOP, NOP, NOR),
+            code => operations[9] = code ^ 1,
+        }
+        operations[10] = AND;
+        let without = sent(operations);
+        for _ in 0..100 {
+            let sources = random.u32() as u16;
+            let says = |words: &[u32]| voltamar::run_sum(words, sources).expect("six words");
+            assert_eq!(says(&without), says(&first) && !says(&second), "{operations:?} {sources:04X}");
+            yes += usize::from(says(&without));
+        }
+    }
+    assert!(yes > 20_000, "{yes}");
 }
