@@ -1,8 +1,8 @@
-//! Times the proved library and the plain implementation on the same inputs: `cargo bench --offline`. For each call it
-//! prints the nanoseconds of both and their ratio; of the bench, the nanoseconds of a sample. Output buffers are made
-//! once and are not cleared between calls, on either side (plain's read, notice and bench write to a page of their own
-//! first, and copy). Both sides run in turn; the best of many rounds counts. The rounds of a short call last long
-//! enough that another process cannot disturb all of them.
+//! Times the proved library and the plain implementation on the same inputs: `cargo bench --offline --bench ratio`. For
+//! each call it prints the nanoseconds of both and their ratio; of the bench, the nanoseconds of a sample. Output buffers
+//! are made once and are not cleared between calls, on either side (plain's read, notice and bench write to a page of
+//! their own first, and copy). Both sides run in turn; the best of many rounds counts. The rounds of a short call last
+//! long enough that another process cannot disturb all of them.
 use plain::make::{self, Random, Setup};
 use plain::programmes;
 use std::hint::black_box;
@@ -90,6 +90,14 @@ fn main() {
         &samples,
         |&(sample, mask)| voltamar::gather(sample, mask),
         |&(sample, mask)| plain::gather(sample, mask),
+    );
+    let mut own = Random(2);
+    let asked: Vec<([u32; 3], u32)> = (0..10_000).map(|_| (make::range(&mut own), own.u32())).collect();
+    compare(
+        "range_hit",
+        &asked,
+        |&([lower, upper, mask], sample)| voltamar::range_hit(lower, upper, mask, sample),
+        |&([lower, upper, mask], sample)| plain::range_hit(lower, upper, mask, sample),
     );
 
     // the words of accepted descriptions, and samples that are random

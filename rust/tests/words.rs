@@ -58,6 +58,21 @@ fn gather_and_hits_agree() {
     assert!(hits.iter().all(|hits| (ROUNDS / 20..ROUNDS * 19 / 20).contains(hits)), "{hits:?}");
 }
 
+/// Each byte of a sample under each mask of that byte, in each place, among lines that are random.
+#[test]
+fn gather_agrees_on_every_byte() {
+    let mut random = Random(0x5851_F42D_4C95_7F2D);
+    for place in [0, 8, 16, 24] {
+        for byte in 0..=0xFF_u32 {
+            for lines in 0..=0xFF_u32 {
+                let around = !(0xFF << place);
+                let (s, mask) = (random.u32() & around | byte << place, random.mask() & around | lines << place);
+                assert_eq!(voltamar::gather(s, mask), plain::gather(s, mask), "gather {s:08X} {mask:08X}");
+            }
+        }
+    }
+}
+
 /// A mask with few lines, so that edges miss as well.
 fn few(random: &mut Random) -> u32 {
     random.mask() & random.mask() & random.u32()

@@ -1,10 +1,10 @@
 -- A line is a binary digit: the laws of one line, and of a number made from its lines. Assumes nothing.
 use mathlib.Core.Path.{_≡_, refl, sym, ap, ap₂, _∙_}
 use Prim.Native.Nat.{ℕ, zero, suc, _+_, _-_, _*_, _/_, _%_, _^_, _<_}
-use native.Mathlib.Nat.{one-mul, mod-lt, two-pow-succ, zero-lt-suc, div-one, add-comm, zero-add, add-mul, add-assoc, mul-assoc, mul-comm}
+use native.Mathlib.Nat.{one-mul, mod-lt, two-pow-succ, zero-lt-suc, div-one, add-comm, zero-add}
 use native.Mathlib.Numerals.{add-one, one-add}
 use native.Mathlib.Omega.{arith}
-use lib.Bits.{bitAnd, bitOr, bitXor, or-shifted-r, and-shr, or-shr, xor-shr, and-mod, or-mod, xor-mod}
+use lib.Bits.{bitAnd, bitOr, bitXor, and-shr, or-shr, xor-shr, and-mod, or-mod, xor-mod}
 use lib.Dec.{lit<}
 use lib.Pow.{shl-exact, shr-shr, field, mod-mod-pow}
 use Rattle.lines.specs.Line.{line, fromLines}
@@ -17,8 +17,11 @@ pub next-lines : (x i : ℕ) → x / 2 ^ i / 2 ≡ x / 2 ^ suc i
 next-lines x i = shr-shr x i 1 ∙ ap (λ (j : ℕ). x / 2 ^ j) (add-one i)
 
 -- the lines of half a sample are the sample's, one line down
+pub half-lines : (x i : ℕ) → x / 2 / 2 ^ i ≡ x / 2 ^ suc i
+half-lines x i = shr-shr x 1 i ∙ ap (λ (j : ℕ). x / 2 ^ j) (one-add i)
+
 pub line-half : (x i : ℕ) → line x (suc i) ≡ line (x / 2) i
-line-half x i = ap (λ (q : ℕ). q % 2) (sym (shr-shr x 1 i ∙ ap (λ (j : ℕ). x / 2 ^ j) (one-add i)))
+line-half x i = ap (λ (q : ℕ). q % 2) (sym (half-lines x i))
 
 pub line-zero : (x : ℕ) → line x 0 ≡ x % 2
 line-zero x = ap (λ (q : ℕ). q % 2) (div-one x)
@@ -26,6 +29,13 @@ line-zero x = ap (λ (q : ℕ). q % 2) (div-one x)
 -- line j + m of a sample is line j of the sample shifted down by m
 pub line-up : (x j m : ℕ) → line x (j + m) ≡ line (x / 2 ^ m) j
 line-up x j m = ap (λ (i : ℕ). x / 2 ^ i % 2) (add-comm j m) ∙ ap (λ (y : ℕ). y % 2) (sym (shr-shr x m j))
+
+-- a number cut to its lowest n + 1 lines: its lowest line, and the others
+pub cut-lowest : (n x : ℕ) → x % 2 ^ suc n % 2 ≡ x % 2
+cut-lowest n x = ap (λ (j : ℕ). x % 2 ^ j % 2) (sym (add-one n)) ∙ mod-mod-pow x n 1
+
+pub cut-others : (n x : ℕ) → x % 2 ^ suc n / 2 ≡ x / 2 % 2 ^ n
+cut-others n x = ap (λ (j : ℕ). x % 2 ^ j / 2) (sym (add-one n)) ∙ field x n 1
 
 -- a number cut to its lowest n lines keeps each of them
 pub line-mod : (x n i : ℕ) → i < n → line (x % 2 ^ n) i ≡ line x i
@@ -52,16 +62,6 @@ shifted-one i w h = shl-exact 1 i w (lit< tt) (omega arith) ∙ one-mul (2 ^ i)
 -- a bit on line i, in a word of 32 bits
 pub bit-shifted : (x i : ℕ) → i < 32 → x % 2 * 2 ^ i % 4294967296 ≡ x % 2 * 2 ^ i
 bit-shifted x i h = shl-exact 1 i 32 (bit-lt x) (omega arith)
-
--- a bit put above the i lowest ones, in a word of 32 bits
-pub put-bit : (x bit i : ℕ) → i < 32 → bit < 2 → x < 2 ^ i → bitOr x (bit * 2 ^ i % 4294967296) ≡ bit * 2 ^ i + x
-put-bit x bit i h hb hx = ap (bitOr x) (shl-exact 1 i 32 hb (omega arith)) ∙ or-shifted-r bit i x hx
-
--- a bit between the number above it and the number below it goes to the one below
-pub bit-down : (t b p s : ℕ) → (t * 2 + b) * p + s ≡ t * (p * 2) + (b * p + s)
-bit-down t b p s =
-    ap (λ (x : ℕ). x + s) (add-mul (t * 2) b p) ∙ add-assoc (t * 2 * p) (b * p) s
-    ∙ ap (λ (x : ℕ). x + (b * p + s)) (mul-assoc t 2 p ∙ ap (λ (x : ℕ). t * x) (mul-comm 2 p))
 
 -- the number with the given lines
 pub from-lines : (n x : ℕ) (f : ℕ → ℕ) → ((i : ℕ) → i < n → f i ≡ line x i) → x < 2 ^ n → fromLines n f ≡ x

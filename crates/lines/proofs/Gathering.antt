@@ -1,13 +1,14 @@
 -- The laws of gathering, over any number n of lines. Assumes nothing.
-use mathlib.Core.Path.{_≡_, refl, sym, _∙_}
+use mathlib.Core.Path.{_≡_, refl, sym, ap, ap₂, _∙_}
 use Prim.Native.Nat.{ℕ, zero, suc, _+_, _*_, _/_, _%_, _^_, _<_}
-use native.Mathlib.Nat.{zero-add, two-pow-succ}
+use native.Mathlib.Nat.{zero-add, add-zero, suc-add, one-mul, mul-one, mul-comm, mul-assoc, div-one, two-pow-succ, lt-of-lt-of-le}
 use native.Mathlib.Numerals.{one-add}
 use native.Mathlib.Omega.{arith}
-use lib.Count.{onesIn, trailingZeros}
-use Rattle.lines.specs.Line.{line}
+use lib.Count.{onesIn}
+use lib.Pow.{pow-mono, pow-add}
 use Rattle.lines.specs.Gather.{pack, gathered}
-use Rattle.lines.proofs.Digit.{bit-lt, line-half, line-zero}
+use Rattle.lines.proofs.Digit.{bit-lt, half-lines, cut-lowest, cut-others}
+use Rattle.lines.proofs.Ones.{ones-in-le}
 
 pack-lt : (d bit x k : ℕ) → d < 2 → bit < 2 → x < 2 ^ k → pack d bit x < 2 ^ (d + k)
 pack-lt zero bit x k hd hb hx = rw (zero-add k) hx
@@ -21,22 +22,38 @@ gather-lt zero sample mask = omega arith
 gather-lt (suc n) sample mask =
     pack-lt (mask % 2) (sample % 2) _ _ (bit-lt mask) (bit-lt sample) (gather-lt n (sample / 2) (mask / 2))
 
--- without a masked line there is nothing to gather
-pub gather-none : (n sample : ℕ) → gathered n sample 0 ≡ 0
-unfolding gathered
-gather-none zero sample = refl
-gather-none (suc n) sample = gather-none n (sample / 2)
+-- and n lines, masked or not, one of n bits
+pub gather-lt-lines : (n sample mask : ℕ) → gathered n sample mask < 2 ^ n
+gather-lt-lines n sample mask = lt-of-lt-of-le (gather-lt n sample mask) (pow-mono {i = onesIn n mask} {j = n} (ones-in-le n mask))
 
--- the lowest bit is the value of the lowest masked line
-pub gather-lowest : (n sample mask : ℕ) → 0 < mask → mask < 2 ^ n → gathered n sample mask % 2 ≡ line sample (trailingZeros n mask)
-unfolding gathered trailingZeros
-gather-lowest zero sample mask h l = absurd (omega arith)
-gather-lowest (suc n) sample mask h l =
-    go (mask % 2) refl (λ p. gather-lowest n (sample / 2) (mask / 2) p (omega (arith, two-pow-succ n)))
-  where
-    go : (d : ℕ) → mask % 2 ≡ d → (0 < mask / 2 → gathered n (sample / 2) (mask / 2) % 2 ≡ line (sample / 2) (trailingZeros n (mask / 2)))
-        → gathered (suc n) sample mask % 2 ≡ line sample (trailingZeros (suc n) mask)
-    go zero e ih = rw e (ih (omega arith) ∙ sym (line-half sample (trailingZeros n (mask / 2))))
-    go (suc zero) e ih =
-        rw e (let low : (gathered n (sample / 2) (mask / 2) * 2 + sample % 2) % 2 ≡ sample % 2 = omega arith in low ∙ sym (line-zero sample))
-    go (suc (suc d)) e ih = absurd (omega (arith, bit-lt mask))
+-- of n lines only the n lowest bits count
+pub gather-cut : (n sample mask : ℕ) → gathered n (sample % 2 ^ n) (mask % 2 ^ n) ≡ gathered n sample mask
+unfolding gathered
+gather-cut zero sample mask = refl
+gather-cut (suc n) sample mask =
+    rw (cut-lowest n mask, cut-lowest n sample, cut-others n mask, cut-others n sample, gather-cut n (sample / 2) (mask / 2))
+
+pack-above : (d bit g p q : ℕ) → d < 2 → pack d bit (g * p + q) ≡ g * (2 ^ d * p) + pack d bit q
+pack-above zero bit g p q h = ap (λ (x : ℕ). g * x + q) (sym (one-mul p))
+pack-above (suc zero) bit g p q h =
+    let e : g * (2 * p) ≡ g * p * 2 = ap (λ (x : ℕ). g * x) (mul-comm 2 p) ∙ sym (mul-assoc g p 2) in
+    rw e (omega arith)
+pack-above (suc (suc d)) bit g p q h = absurd (omega arith)
+
+-- the lines from line k up go above the masked ones of the k lowest
+pub gather-split : (k n sample mask : ℕ)
+    → gathered (k + n) sample mask ≡ gathered n (sample / 2 ^ k) (mask / 2 ^ k) * 2 ^ onesIn k mask + gathered k sample mask
+unfolding gathered onesIn
+gather-split zero n sample mask =
+    let above = gathered n (sample / 1) (mask / 1) in
+    ap (λ (j : ℕ). gathered j sample mask) (zero-add n) ∙ ap₂ (gathered n) (sym (div-one sample)) (sym (div-one mask))
+    ∙ sym (add-zero (above * 1) ∙ mul-one above)
+gather-split (suc k) n sample mask =
+    let above = gathered n (sample / 2 ^ suc k) (mask / 2 ^ suc k) in
+    let rest = gathered k (sample / 2) (mask / 2) in
+    let raised = 2 ^ onesIn k (mask / 2) in
+    ap (λ (j : ℕ). gathered j sample mask) (suc-add k n)
+    ∙ ap (pack (mask % 2) (sample % 2))
+    (gather-split k n (sample / 2) (mask / 2) ∙ ap (λ (x : ℕ). x * raised + rest) (ap₂ (gathered n) (half-lines sample k) (half-lines mask k)))
+    ∙ pack-above (mask % 2) (sample % 2) above raised rest (bit-lt mask)
+    ∙ ap (λ (x : ℕ). above * x + gathered (suc k) sample mask) (sym (pow-add 2 (mask % 2) (onesIn k (mask / 2))))

@@ -4,6 +4,9 @@ pub mod Digit
 pub mod Over
 pub mod Ones
 pub mod Gathering
+pub mod Nibble
+pub mod Fours
+pub mod Unmasked
 pub mod Scattering
 pub mod Drop
 pub mod Flip

@@ -1,12 +1,12 @@
 -- How many of the lowest lines are masked. Assumes nothing.
 use mathlib.Core.Path.{_≡_, refl, sym, ap, _∙_}
 use Prim.Native.Nat.{ℕ, zero, suc, _+_, _/_, _%_, _^_, _≤_, _<_}
-use native.Mathlib.Nat.{mod-lt, two-pow-succ}
-use native.Mathlib.Numerals.{add-one}
+use native.Mathlib.Nat.{add-zero, zero-add, suc-add, div-one, mod-lt, two-pow-succ}
 use native.Mathlib.Decide.{decLt}
 use native.Mathlib.Omega.{arith}
-use lib.Pow.{pow-pos, mod-mod-pow, field}
+use lib.Pow.{pow-pos}
 use lib.Count.{ones, onesIn, ones-step}
+use Rattle.lines.proofs.Digit.{half-lines, cut-lowest, cut-others}
 
 -- of a mask that has n lines, all masked lines are among the n lowest
 pub ones-in : (n mask : ℕ) → mask < 2 ^ n → onesIn n mask ≡ ones mask
@@ -30,13 +30,19 @@ ones-pos (suc n) mask h l = go (decLt 0 (mask / 2)) (λ p. ones-pos n (mask / 2)
     go (no q) ih = omega arith
 
 -- the masked ones of the i lowest lines, cut off
-ones-cut : (i mask : ℕ) → onesIn i (mask % 2 ^ i) ≡ onesIn i mask
+pub ones-cut : (i mask : ℕ) → onesIn i (mask % 2 ^ i) ≡ onesIn i mask
 unfolding onesIn
-ones-cut zero m = refl
-ones-cut (suc i) m =
-    let bit : m % 2 ^ suc i % 2 ≡ m % 2 = ap (λ (j : ℕ). m % 2 ^ j % 2) (sym (add-one i)) ∙ mod-mod-pow m i 1 in
-    let rest : m % 2 ^ suc i / 2 ≡ m / 2 % 2 ^ i = ap (λ (j : ℕ). m % 2 ^ j / 2) (sym (add-one i)) ∙ field m i 1 in
-    rw (bit, rest, ones-cut i (m / 2))
+ones-cut zero mask = refl
+ones-cut (suc i) mask = rw (cut-lowest i mask, cut-others i mask, ones-cut i (mask / 2))
 
 pub ones-below : (i mask : ℕ) → ones (mask % 2 ^ i) ≡ onesIn i mask
 ones-below i mask = sym (ones-in i (mask % 2 ^ i) (mod-lt mask (pow-pos i))) ∙ ones-cut i mask
+
+-- the masked lines of k + n lines are those from line k up, and those of the k lowest
+pub ones-split : (k n mask : ℕ) → onesIn (k + n) mask ≡ onesIn n (mask / 2 ^ k) + onesIn k mask
+unfolding onesIn
+ones-split zero n mask = ap (λ (j : ℕ). onesIn j mask) (zero-add n) ∙ ap (onesIn n) (sym (div-one mask)) ∙ sym (add-zero (onesIn n (mask / 1)))
+ones-split (suc k) n mask =
+    let rest = ones-split k n (mask / 2) ∙ ap (λ (x : ℕ). onesIn n x + onesIn k (mask / 2)) (half-lines mask k) in
+    ap (λ (j : ℕ). onesIn j mask) (suc-add k n)
+    ∙ (let all : mask % 2 + onesIn (k + n) (mask / 2) ≡ onesIn n (mask / 2 ^ suc k) + (mask % 2 + onesIn k (mask / 2)) = omega arith in all)

@@ -1,10 +1,15 @@
 // The 32 lines of a sample: one line, the masked lines packed into a number, and a number put back on the masked lines.
 // Promises: each call equals its definition in specs/, for any numbers; the laws of digits, lines and computed tests stand in proofs/.
 // Rests on: nothing.
+mod nibbles;
+
 ghost use mathlib.Core.Path.{_≡_};
 ghost use Rattle.lines.specs.Line.{line};
 ghost use Rattle.lines.specs.Gather.{gathered, scattered, dropLowest};
 ghost use lib.Count.{onesIn};
+use nibbles::packed_nibbles;
+use nibbles::unmasked_in_bytes;
+use nibbles::unmasked_in_lower;
 
 // The value of line i of x. A u32 has 32 lines; any other is 0.
 pub fn line_value(x: u32, i: u32) -> u32
@@ -14,18 +19,22 @@ pub fn line_value(x: u32, i: u32) -> u32
 }
 
 // The masked lines of the sample, packed into a number: the lowest masked line is bit 0.
-// Only the masked lines are visited, the lowest first.
+// The lines of each nibble are packed, all at once. Then, from the highest byte down, its upper nibble comes down by the
+// unmasked lines of its lower nibble, and what is above the byte by those of the byte.
 pub fn gather(sample: u32, mask: u32) -> u32
     ensures { λ r. ⌜ r ≡ gathered 32 sample mask ⌝ }
 {
+    let lower = unmasked_in_lower(mask);
+    let gaps = unmasked_in_bytes(mask);
+    let nibbles = packed_nibbles(sample, mask);
     let mut packed: u32 = 0;
-    let mut rank: u32 = 0;
-    let mut left = mask;
-    while 0 < left {
-        let bit = line_value(sample, u32::trailing_zeros(left));
-        packed = packed | (bit << rank);
-        rank += 1;
-        left = drop_lowest(left);
+    let mut i: u32 = 4;
+    while 0 < i {
+        i -= 1;
+        let at = 8 * i;
+        let low = nibbles & (15 << at);
+        let high = (nibbles & (0xf0 << at)) >> ((lower >> at) & 15);
+        packed = (packed >> ((gaps >> at) & 15)) + (low + high);
     }
     packed
 }
