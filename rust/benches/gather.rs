@@ -1,9 +1,10 @@
 //! Times gathering on wide masks: `cargo bench --offline --bench gather`, after `rt staticlib voltamar_c` and
-//! `rt staticlib gather_walk` at the top of the repository. A million random samples, each with a random mask of sixteen
-//! lines or more: nanoseconds a call of the library's gather, of a walk over the 32 lines in Rattle, which is there for
-//! this comparison alone, of the same walk and of a loop over the masked lines in plain Rust and, where the processor
-//! has it, of its own instruction. All are compared before they are timed, run in turn, and the best of the rounds counts.
-//! Wanted: at most a quarter of the Rattle walk's time, and less than that of the loop.
+//! `rt staticlib gather_walk` at the top of the repository. Over a million random pairs of sample and mask, the mask
+//! of sixteen lines or more: nanoseconds a call of the library's gather, of a walk over the 32 lines in Rattle, which
+//! is there for this comparison alone, of the same walk and of a loop over the masked lines in plain Rust and, where
+//! the processor has it, of its own instruction. All are compared before they are timed, run in turn, and the best
+//! of the rounds counts. Wanted: at most a quarter of the Rattle walk's time, and less than that of the loop. The
+//! gate runs it for the comparison.
 use plain::make::Random;
 use std::hint::black_box;
 use std::time::Instant;
@@ -83,7 +84,7 @@ fn main() {
             *best = best.min(start.elapsed().as_secs_f64() / PAIRS as f64 * 1e9);
         }
     }
-    println!("{PAIRS} random samples, each with a random mask of sixteen lines or more; release build");
+    println!("{PAIRS} random samples, masks of sixteen lines or more, random too; release build");
     println!("{:<16} {:>12} {:>16}", "way", "ns a call", "of the walk");
     for ((name, _), time) in ways.iter().zip(&best) {
         println!("{name:<16} {time:>12.2} {:>16.3}", time / best[1]);
