@@ -1,10 +1,10 @@
 //! Times gathering on wide masks: `cargo bench --offline --bench gather`, after `rt staticlib voltamar_c` and
 //! `rt staticlib gather_walk` at the top of the repository. Over a million random pairs of sample and mask, the mask
 //! of sixteen lines or more: nanoseconds a call of the library's gather, of a walk over the 32 lines in Rattle, which
-//! is there for this comparison alone, of the same walk and of a loop over the masked lines in plain Rust and, where
-//! the processor has it, of its own instruction. All are compared before they are timed, run in turn, and the best
-//! of the rounds counts. Wanted: at most a quarter of the Rattle walk's time, and less than that of the loop. The
-//! gate runs it for the comparison.
+//! is there for this comparison alone, of the same walk, of one without a branch and of a loop over the masked lines in
+//! plain Rust and, where the processor has it, of its own instruction. All are compared before they are timed, run in
+//! turn, and the best of the rounds counts. Wanted: at most a quarter of the Rattle walk's time, and less than that of
+//! the loop. The gate runs it for the comparison.
 use plain::make::Random;
 use std::hint::black_box;
 use std::time::Instant;
@@ -24,6 +24,16 @@ fn walk(sample: u32, mask: u32) -> u32 {
         if mask >> line & 1 == 1 {
             packed = packed << 1 | (sample >> line & 1);
         }
+    }
+    packed
+}
+
+/// The same walk without a branch: each line goes in, and what is there moves up by the mask's line, by one or by none.
+fn walk_without_branch(sample: u32, mask: u32) -> u32 {
+    let mut packed = 0;
+    for line in (0..32).rev() {
+        let masked = mask >> line & 1;
+        packed = packed << masked | (sample >> line & masked);
     }
     packed
 }
@@ -48,6 +58,7 @@ fn ways() -> Vec<Way> {
         ("gather", |pairs| all(pairs, voltamar::gather)),
         ("walk in Rattle", |pairs| all(pairs, |sample, mask| unsafe { voltamar_gather_walk(sample, mask) })),
         ("walk in Rust", |pairs| all(pairs, walk)),
+        ("without branch", |pairs| all(pairs, walk_without_branch)),
         ("loop in Rust", |pairs| all(pairs, plain::gather)),
     ];
     #[cfg(target_arch = "x86_64")]
