@@ -4,7 +4,7 @@
  * What each call promises is proved, for every input: there is no input that it may not be given.
  *
  * ANSWERS. A call that returns uint8_t returns 0 for done (VOLTAMAR_DONE), or the number of the refusal (enum voltamar_refusal
- * below; voltamar_meaning says it in words).
+ * below; voltamar_meaning says it in words). voltamar_sum_telling has a second answer that is no refusal, 1.
  *
  * Each call writes through each of its pointers to one value, whatever it returns. *place is, for a refusal, the offset of the
  * count, record, byte, command or item that is refused; for 12 the bytes needed, of the bench the words; for 17 the words needed,
@@ -16,10 +16,10 @@
  *
  * WHAT THE CALLER OWES, since nothing here can test it: a pointer is good for as many bytes or words as the length beside it says
  * (with a length of 0 it may be NULL), and the others are good for the one value they point to; each is aligned as C asks for its
- * type, which for bytes is any address, and for uint32_t and size_t one that their size divides; what is written through
- * (out, run, place, which, start, length, hit) overlaps nothing else that is handed over; and no other thread writes what is handed
- * over, or reads what is written, during the call. The calls keep no state and allocate nothing; of the C library they
- * need memcpy and memset. */
+ * type, which for bytes is any address, and for uint16_t, uint32_t and size_t one that their size divides; what is written
+ * through (out, run, place, which, start, length, hit, sources) overlaps nothing else that is handed over; and no other
+ * thread writes what is handed over, or reads what is written, during the call. The calls keep no state and allocate
+ * nothing; of the C library they need memcpy and memset. */
 #ifndef VOLTAMAR_H
 #define VOLTAMAR_H
 
@@ -35,7 +35,7 @@ extern "C" {
 
 #define VOLTAMAR_LONGEST_SHEET 1571
 #define VOLTAMAR_LONGEST_STREAM 2520
-#define VOLTAMAR_LONGEST_NOTICE 2172
+#define VOLTAMAR_LONGEST_NOTICE 2412
 
 /* The most samples that one call of the bench takes. */
 #define VOLTAMAR_MOST_SAMPLES 4096
@@ -109,6 +109,12 @@ uint8_t voltamar_run_term(const uint32_t *words, size_t n, uint32_t sample, uint
 uint8_t voltamar_run_range(const uint32_t *words, size_t n, uint32_t sample, uint8_t *hit, size_t *place);
 uint8_t voltamar_run_edge(const uint32_t *words, size_t n, uint32_t earlier, uint32_t later, uint8_t *hit, size_t *place);
 uint8_t voltamar_run_sum(const uint32_t *words, size_t n, uint16_t sources, uint8_t *hit, size_t *place);
+
+/* Whether some pattern of the sources, from 0 to 65,535, tells two sums apart: one hits on it and the other misses, by the
+ * model over the words that the compiler writes for their operations. A sum is its eleven operations, as on the sheet.
+ * Alike: 0, and *sources is 0. Told apart: 1, and *sources is the least pattern that tells. Refused: 10, and *sources is 0,
+ * where one of the two is not eleven bytes, or has a byte above 9. */
+uint8_t voltamar_sum_telling(const uint8_t *old_ops, size_t n, const uint8_t *new_ops, size_t k, uint16_t *sources);
 
 /* The plain rules of a hit. A term hits when each line that the mask has set has the target's value; a range when lower <= gathered
  * <= upper; an edge when some line does what is asked for it: rise (earlier 0, later 1), fall (1, 0), neither (equal). */

@@ -434,14 +434,15 @@ lines_are() { # FILE: the lines of the page are those of the notice
 reports() {
     says '' notice --report old.sheet new.sheet -o page
     for line in 'Old sheet: old.sheet' 'New sheet: new.sheet' "           60 bytes, SHA-256 $(sha256sum <old.sheet | head -c 64)" \
-        "           56 bytes, SHA-256 $(sha256sum <new.sheet | head -c 64)" 'Lines by sort: NAME 1, ALTR 1, WORD 0, OPER 0, NEW 1, GONE 1' \
+        "           56 bytes, SHA-256 $(sha256sum <new.sheet | head -c 64)" 'Lines by sort: NAME 1, ALTR 1, WORD 0, NEW 1, GONE 1' \
         "    old label 'DOORLOCK', new label 'DOORLK  '" "    old label 'FLOORS  ', new label (no such slot)" 'TERM 01 ALTR 00000004'; do
         expect "the report has no line '$line'" grep -qxF "$line" page
     done
     lines_are old-new.notice
     "$voltamar" notice --report lift.sheet lift-revised.sheet >page
     lines_are lift-revised.notice
-    for line in 'Lines by sort: NAME 3, ALTR 2, WORD 2, OPER 1, NEW 3, GONE 3' "    old label 'MOVING  ', new label 'RIDING  '" \
+    for line in 'Lines by sort: NAME 3, ALTR 3, WORD 2, NEW 3, GONE 3' "    old label 'MOVING  ', new label 'RIDING  '" \
+        'SUMS 08 ALTR 0400' '    sources that hit in it: RANG 00' \
         "    Altered: the state's number, else state or flags are others." "    old label 'STOPPED ', new label (no such slot)"; do
         expect "the report has no line '$line'" grep -qxF "$line" page
     done

@@ -227,6 +227,30 @@ static void model(void) {
     expect(voltamar_run_sum(NULL, 0, 0, &hit, &place) == 17 && hit == 0 && place == 6, "run_sum: 17");
 }
 
+/* what the call returns for two sums of so many bytes, if it leaves these sources, whatever was there; else 99 */
+static uint8_t telling(const uint8_t *old_ops, size_t n, const uint8_t *new_ops, size_t k, uint16_t wanted_sources) {
+    uint16_t sources = 0xFFFF, again = 0;
+    uint8_t answer = voltamar_sum_telling(old_ops, n, new_ops, k, &sources);
+    uint8_t once_more = voltamar_sum_telling(old_ops, n, new_ops, k, &again);
+    return sources == wanted_sources && again == wanted_sources && answer == once_more ? answer : 99;
+}
+
+static void tellings(void) {
+    /*                     ab c  d  e  fg h  i  j  mids  final */
+    const uint8_t both[11] = {2, 0, 0, 0, 0, 0, 0, 0, 4, 0, 4}, either[11] = {4, 0, 0, 0, 0, 0, 0, 0, 4, 0, 4};
+    const uint8_t unasked[11] = {4, 0, 0, 0, 0, 0, 0, 0, 0, 0, 4}, never[12] = {0}, all[11] = {2, 2, 2, 2, 2, 2, 2, 2, 2, 2, 2};
+    const uint8_t timer[11] = {0, 0, 0, 0, 0, 0, 0, 9, 0, 4, 9}, bad[11] = {0, 0, 0, 0, 0, 0, 0, 0, 0, 0, 10};
+    expect(telling(both, 11, both, 11, 0) == 0, "sum_telling: the same");
+    expect(telling(unasked, 11, never, 11, 0) == 0, "sum_telling: alike, with other words");
+    expect(telling(both, 11, either, 11, 0x0001) == 1, "sum_telling: the first source without the second");
+    expect(telling(either, 11, both, 11, 0x0001) == 1, "sum_telling: the other way round");
+    expect(telling(timer, 11, never, 11, 0x8000) == 1, "sum_telling: the last source alone");
+    expect(telling(all, 11, never, 11, 0xFFFF) == 1, "sum_telling: all sources");
+    expect(telling(both, 11, either, 10, 0) == VOLTAMAR_BAD_OPERATION, "sum_telling: ten bytes");
+    expect(telling(never, 12, either, 11, 0) == 10 && telling(NULL, 0, NULL, 0, 0) == 10, "sum_telling: twelve bytes, and none");
+    expect(telling(bad, 11, both, 11, 0) == 10 && telling(both, 11, bad, 11, 0) == 10, "sum_telling: a code of 10");
+}
+
 enum { ROOM = 256, RUN = 5, CANARY = 0x5A5A5A5A };
 
 /* the words of a file of examples/, least byte first, and how many */
@@ -379,6 +403,7 @@ int main(void) {
     labels();
     notices();
     model();
+    tellings();
     bench();
     bench_refusals();
     bench_of_the_lift();

@@ -133,14 +133,21 @@ fn main() {
         |(words, earlier, later)| voltamar::run_edge(words, *earlier, *later),
         |(words, earlier, later)| plain::run_edge(words, *earlier, *later),
     );
-    let sums: Vec<([u32; 6], u16)> = (0..10_000)
-        .map(|_| (plain::sum_words(&std::array::from_fn(|_| random.below(10) as u8)), random.u32() as u16))
-        .collect();
+    let sums: Vec<([u32; 6], u16)> =
+        (0..10_000).map(|_| (plain::sum_words(&make::sum(&mut random)), random.u32() as u16)).collect();
     compare(
         "run_sum",
         &sums,
         |(words, sources)| voltamar::run_sum(words, *sources),
         |(words, sources)| plain::run_sum(words, *sources),
+    );
+    let mut own = Random(3);
+    let told: Vec<([u8; 11], [u8; 11])> = (0..10_000).map(|_| (make::sum(&mut own), make::sum(&mut own))).collect();
+    compare(
+        "sum_telling",
+        &told,
+        |(old, new)| voltamar::sum_telling(old, new),
+        |(old, new)| plain::telling_sum(old, new),
     );
     bench(&mut random);
 }

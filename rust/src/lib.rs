@@ -17,13 +17,13 @@ use std::fmt;
 /// Room for the longest sheet, the most commands and the longest notice.
 pub const LONGEST_SHEET: usize = 1571;
 pub const LONGEST_STREAM: usize = 2520;
-pub const LONGEST_NOTICE: usize = 2172;
+pub const LONGEST_NOTICE: usize = 2412;
 
 /// The most samples that one call of [`bench()`] takes.
 pub const MOST_SAMPLES: usize = 4096;
 
 /// A refusal: its number, and its place (for 12 the bytes needed, of [`bench()`] the words; for 17 the words needed;
-/// for 20 the most samples).
+/// for 20 the most samples; of [`sum_telling`] 0).
 #[derive(Clone, Copy, Debug, PartialEq, Eq)]
 pub struct Refusal {
     pub number: u8,
@@ -123,6 +123,13 @@ mod raw {
             place: *mut usize,
         ) -> u8;
         pub fn voltamar_run_sum(words: *const u32, n: usize, sources: u16, hit: *mut u8, place: *mut usize) -> u8;
+        pub fn voltamar_sum_telling(
+            old_ops: *const u8,
+            n: usize,
+            new_ops: *const u8,
+            k: usize,
+            sources: *mut u16,
+        ) -> u8;
         pub fn voltamar_term_hit(target: u32, mask: u32, sample: u32) -> bool;
         pub fn voltamar_range_hit(lower: u32, upper: u32, mask: u32, sample: u32) -> bool;
         pub fn voltamar_edge_hit(rise: u32, fall: u32, neither: u32, earlier: u32, later: u32) -> bool;
@@ -285,6 +292,27 @@ pub fn run_sum(words: &[u32], sources: u16) -> Result<bool, Refusal> {
     let (mut hit, mut place) = (0, 0);
     let number = unsafe { raw::voltamar_run_sum(words.as_ptr(), words.len(), sources, &mut hit, &mut place) };
     answer(number, place, hit != 0)
+}
+
+/// The least pattern of the sixteen sources that tells two sums apart, or none. A sum is its eleven operations; what it
+/// does is what [`run_sum`] says of the words that [`compile`] writes for it. What is not eleven operations from 0 to 9
+/// is refused with 10.
+///
+/// ```
+/// let both = [2, 0, 0, 0, 0, 0, 0, 0, 4, 0, 4]; // ab AND, mid1 OR, final OR: terms 0 and 1
+/// let either = [4, 0, 0, 0, 0, 0, 0, 0, 4, 0, 4]; // ab OR
+/// assert_eq!(voltamar::sum_telling(&both, &either), Ok(Some(0x0001)));
+/// assert_eq!(voltamar::sum_telling(&[0; 11], &[5, 0, 0, 0, 0, 0, 0, 0, 0, 0, 0]), Ok(None));
+/// assert_eq!(voltamar::sum_telling(&both, &either[1..]), Err(voltamar::Refusal { number: 10, place: 0 }));
+/// ```
+#[inline]
+pub fn sum_telling(old: &[u8], new: &[u8]) -> Result<Option<u16>, Refusal> {
+    let mut sources = 0;
+    match unsafe { raw::voltamar_sum_telling(old.as_ptr(), old.len(), new.as_ptr(), new.len(), &mut sources) } {
+        0 => Ok(None),
+        1 => Ok(Some(sources)),
+        number => Err(Refusal { number, place: 0 }),
+    }
 }
 
 /// The plain rule of a term.

@@ -1,6 +1,6 @@
 //! notice of the proved library against the plain implementation, on pairs of sheets that are near one another, and on
-//! damaged ones. All is compared byte by byte but the samples that the rules leave open (an ALTR line of a range or an
-//! edge): of those it is seen that they tell the two apart.
+//! damaged ones. All is compared byte by byte but what the rules leave open (the samples on an ALTR line of a range or
+//! an edge, the pattern on that of a sum): of that it is seen that it tells the two apart.
 use plain::make::{self, Random, Setup, Tally};
 
 const PAIRS: usize = 100_000;
@@ -38,7 +38,7 @@ fn notice_agrees() {
     let mut random = Random(0xBF58_476D_1CE4_E5B9);
     // by which sheet is refused: neither (done, or 12), old, new
     let (mut proved_tally, mut plain_tally): ([Tally; 3], [Tally; 3]) = Default::default();
-    for _ in 0..PAIRS {
+    for round in 0..PAIRS {
         let taken = random.below(9);
         let setup = Setup::random(&mut random, taken);
         let next = if random.one_in(8) { Setup::random(&mut random, taken) } else { setup.near(&mut random) };
@@ -52,7 +52,9 @@ fn notice_agrees() {
         assert_eq!(got, want, "room {room}, old {old:02X?}, new {new:02X?}");
         match got {
             Ok(length) => {
-                if let Err(wrong) = plain::notice_agrees(&old, &new, &a[..length]) {
+                // to try all patterns takes long where none tells
+                let tell_sums = if round % 50 == 0 { plain::scan_telling_sum } else { plain::telling_sum };
+                if let Err(wrong) = plain::notice_agrees(&old, &new, &a[..length], tell_sums) {
                     panic!("{wrong}; old {old:02X?}, new {new:02X?}");
                 }
                 assert!(a[length..] == noise[length..], "bytes beyond the notice, old {old:02X?}, new {new:02X?}");
@@ -80,4 +82,32 @@ fn the_pair_given_whole() {
     let mut out = [0; 60];
     assert_eq!(voltamar::notice(&load("old.sheet"), &load("new.sheet"), &mut out), Ok(60));
     assert_eq!(out, *b"TERM 00 NAME\nTERM 01 ALTR 00000004\nTERM 02 NEW\nRANG 00 GONE\n");
+}
+
+/// A sheet with every slot taken, the descriptions of a section all the same, its labels the letter and the slot.
+fn full(letter: char, descriptions: [Vec<u8>; plain::SECTIONS]) -> Vec<u8> {
+    let mut sheet = Vec::new();
+    for (most, description) in plain::MOST.into_iter().zip(descriptions) {
+        sheet.push(most);
+        for slot in 0..most {
+            sheet.push(slot);
+            sheet.extend(format!("{letter}{slot:02}     ").bytes());
+            sheet.extend(&description);
+        }
+    }
+    sheet
+}
+
+/// Every label differs, and every description is told apart.
+#[test]
+fn the_longest_notice() {
+    let numbers = |numbers: &[u32]| numbers.iter().flat_map(|number| number.to_le_bytes()).collect::<Vec<u8>>();
+    let state = |number| [numbers(&[number]), vec![0; 9]].concat();
+    let old = full('A', [numbers(&[0, 1]), numbers(&[1, 1, 1]), numbers(&[1, 0, 0]), vec![0; 11], state(0)]);
+    let new = full('B', [numbers(&[1, 1]), numbers(&[1, 1, 2]), numbers(&[0, 1, 0]), vec![1; 11], state(1)]);
+    let mut out = [0; voltamar::LONGEST_NOTICE];
+    let short = voltamar::notice(&old, &new, &mut out[1..]);
+    assert_eq!(short, Err(voltamar::NoticeRefusal::Short { needed: 2412 }));
+    assert_eq!(voltamar::notice(&old, &new, &mut out), Ok(2412));
+    assert_eq!(plain::notice_agrees(&old, &new, &out, plain::scan_telling_sum), Ok(()));
 }

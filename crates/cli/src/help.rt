@@ -130,7 +130,7 @@ fn write_more(verb: u8, fd: i32) -> bool {
 fn write_notice_help(fd: i32) -> bool {
     io::write_all(
         fd,
-        b"Writes a line for each alteration: TERM, RANG, EDGE, SUMS or STAT, the slot, and\n  NAME  the label differs\n  ALTR  what is caught differs, and an input in hex that tells the two apart;\n        of a state its number, else state or flags differ, and no input follows\n  WORD  the description differs, but no input tells the two apart\n  OPER  a sum's operations differ\n  NEW   only the new sheet has the slot\n  GONE  only the old sheet has the slot\nAn empty notice with status 0 says that nothing is altered; a refusal gives no notice and status 1.\n--report: a page for signing, with both files' names, lengths and SHA-256, and what each line says.\n",
+        b"Writes a line for each alteration: TERM, RANG, EDGE, SUMS or STAT, the slot, and\n  NAME  the label differs\n  ALTR  what is caught differs, and an input in hex that tells the two apart;\n        of a sum its sixteen sources: from the lowest bit up the terms 0 to 9, the\n        ranges 0 and 1, the edges 0 and 1 and the two timers, every pattern counts;\n        of a state its number, else state or flags differ, and no input follows\n  WORD  the description differs, but no input tells the two apart\n  NEW   only the new sheet has the slot\n  GONE  only the old sheet has the slot\nAn empty notice with status 0 says that nothing is altered; a refusal gives no notice and status 1.\n--report: a page for signing, with both files' names, lengths and SHA-256, and what each line says.\n",
     )
 }
 

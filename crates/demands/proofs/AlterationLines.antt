@@ -8,17 +8,16 @@ use native.Mathlib.Omega.{arith}
 use lib.Dec.{lit<}
 use Rattle.lut.specs.declared.Input.{Input}
 use Rattle.lut.specs.declared.Input.the-variants.{Nothing}
-use Rattle.lut.specs.Telling.{HitAlike, TellsApart, NoneLess}
+use Rattle.lut.specs.Telling.{HitAlike, TellsApart, Says, NoneLess}
 use Rattle.peek.specs.Bytes.{Bytes}
 use Rattle.buffer.specs.declared.Verdict.the-variants.{Accepted}
-use Rattle.kinds.specs.Change.{Says}
 use Rattle.state.specs.Description as state
 use Rattle.state.proofs.Theorems.{bytes-inverse}
-use Rattle.kinds.specs.Table.{TERMS, SUMS, STATES, kindOf, descriptionSize, descriptionFault, showsOf, changeOf}
-use Rattle.kinds.specs.declared.Change.{Change}
-use Rattle.kinds.specs.declared.Change.the-variants.{Oper, Word, Altr}
+use Rattle.kinds.specs.Table.{TERMS, STATES, kindOf, descriptionSize, descriptionFault, showsOf, tellingOf}
+use Rattle.lut.specs.declared.Telling.{Telling}
+use Rattle.lut.specs.declared.Telling.the-variants.{Alike, Apart}
 use Rattle.kinds.proofs.Ways as ways
-use Rattle.kinds.proofs.Ways.{change-says, word-iff-alike}
+use Rattle.kinds.proofs.Ways.{telling-says, alike-exactly}
 use Rattle.records.specs.Sections.{sections, mostOf, labelOf}
 use Rattle.sheet.specs.Reading.{verdict}
 use Rattle.sheet.specs.Parsed.{recordWith}
@@ -30,13 +29,13 @@ use Rattle.notice.specs.Notice.{noticeLines, noticeText}
 use Rattle.notice.specs.Shared.{Has, Shared, descriptionAt, Gives}
 use Rattle.notice.proofs.Members as members
 use Rattle.demands.specs.Apart.{SomeInputTells}
-use Rattle.demands.proofs.Tellings.{oper-iff, altr-shown, least}
+use Rattle.demands.proofs.Tellings.{one-shown, least}
 use Rattle.demands.proofs.NoticeBytes.{Shows, AllValid, each-valid, equal-bytes-equal-lines}
 
 -- an alteration line, the buyer's term: one with ALTR, and the input that it shows [G10]
 pub record AlterationLine (old new : List ℕ) (k slot : ℕ) : Type 0 where
   pub input : Input
-  pub there : List·Memᴰ (line k slot (Changed (Altr input))) (noticeLines old new)
+  pub there : List·Memᴰ (line k slot (Changed (Apart input))) (noticeLines old new)
 
 module _ (old new : List ℕ) (bo : Bytes old) (bn : Bytes new) (ao : verdict old ≡ Accepted) (an : verdict new ≡ Accepted) where
   -- a line is there exactly if what it says of its slot holds
@@ -76,61 +75,52 @@ module _ (old new : List ℕ) (bo : Bytes old) (bn : Bytes new) (ao : verdict ol
 
   -- what is found of them says what it should
   says : (k slot : ℕ) → k < sections → Shared k slot old new → (descriptionAt k slot old ≡ descriptionAt k slot new → ⊥)
-      → let d = descriptionAt k slot old in let e = descriptionAt k slot new in Says (showsOf k d) (showsOf k e) (changeOf k d e)
-  says k slot hk s differ = change-says k hk _ _ (changed k slot hk s differ)
+      → let d = descriptionAt k slot old in let e = descriptionAt k slot new in Says (showsOf k d) (showsOf k e) (tellingOf k d e)
+  says k slot hk s differ = telling-says k hk _ _ (changed k slot hk s differ)
 
   -- the input that it shows tells the two apart [D3.6]
-  pub line-shows-one-that-does : (k slot : ℕ) (input : Input) → k < sections → List·Memᴰ (line k slot (Changed (Altr input))) (noticeLines old new)
+  pub line-shows-one-that-does : (k slot : ℕ) (input : Input) → k < sections → List·Memᴰ (line k slot (Changed (Apart input))) (noticeLines old new)
       → TellsApart (showsOf k (descriptionAt k slot old)) (showsOf k (descriptionAt k slot new)) input
   line-shows-one-that-does k slot input hk i =
-      let g = line-iff k slot (Changed (Altr input)) hk .0 i in
+      let g = line-iff k slot (Changed (Apart input)) hk .0 i in
       subst (Says (showsOf k (descriptionAt k slot old)) (showsOf k (descriptionAt k slot new))) (sym (g .3)) (says k slot hk (g .0, g .1) (g .2))
 
-  -- ALTR exactly where some input tells the two apart, in every section but the sums
-  pub alteration-iff-some-input-tells : (k slot : ℕ) → k < sections → (k ≡ SUMS → ⊥) → Shared k slot old new
+  -- ALTR exactly where some input tells the two apart, in every section
+  pub alteration-iff-some-input-tells : (k slot : ℕ) → k < sections → Shared k slot old new
       → AlterationLine old new k slot ↔ SomeInputTells k (descriptionAt k slot old) (descriptionAt k slot new)
-  alteration-iff-some-input-tells k slot hk n s = (
+  alteration-iff-some-input-tells k slot hk s = (
     (λ a. record { input = a .input; tells = line-shows-one-that-does k slot (a .input) hk (a .there) }),
     (λ w.
         let differ : descriptionAt k slot old ≡ descriptionAt k slot new → ⊥ = λ p. w .tells .tells (ap (λ (x : List ℕ). showsOf k x (w .input)) p) in
-        let (i, q) = altr-shown k _ _ (λ o. n (oper-iff k hk _ _ .0 o)) (says k slot hk s differ) w in
-        let there = line-iff k slot (Changed (Altr i)) hk .1 (s .0, s .1, differ, sym q) in
+        let (i, q) = one-shown k _ _ (says k slot hk s differ) w in
+        let there = line-iff k slot (Changed (Apart i)) hk .1 (s .0, s .1, differ, sym q) in
         record { input = i; there = there }),
   )
 
   -- WORD where no input tells, and only there [N6]
-  pub word-iff-alike-on-every-input : (k slot : ℕ) → k < sections → (k ≡ SUMS → ⊥)
-      → List·Memᴰ (line k slot (Changed Word)) (noticeLines old new)
+  pub word-iff-alike-on-every-input : (k slot : ℕ) → k < sections
+      → List·Memᴰ (line k slot (Changed Alike)) (noticeLines old new)
       ↔ (Has k slot old × Has k slot new × (descriptionAt k slot old ≡ descriptionAt k slot new → ⊥)
       × HitAlike (showsOf k (descriptionAt k slot old)) (showsOf k (descriptionAt k slot new)))
-  word-iff-alike-on-every-input k slot hk n = (
-    (λ i. let g = line-iff k slot (Changed Word) hk .0 i in (g .0, g .1, g .2, alike (g .0, g .1) (g .2) .0 (sym (g .3)))),
-    (λ g. line-iff k slot (Changed Word) hk .1 (g .0, g .1, g .2, sym (alike (g .0, g .1) (g .2) .1 (g .3)))),
+  word-iff-alike-on-every-input k slot hk = (
+    (λ i. let g = line-iff k slot (Changed Alike) hk .0 i in (g .0, g .1, g .2, alike (g .0, g .1) (g .2) .0 (sym (g .3)))),
+    (λ g. line-iff k slot (Changed Alike) hk .1 (g .0, g .1, g .2, sym (alike (g .0, g .1) (g .2) .1 (g .3)))),
   )
     where
       alike : Shared k slot old new → (descriptionAt k slot old ≡ descriptionAt k slot new → ⊥)
-          → let d = descriptionAt k slot old in let e = descriptionAt k slot new in (changeOf k d e ≡ Word) ↔ HitAlike (showsOf k d) (showsOf k e)
-      alike s differ = word-iff-alike k hk _ _ (changed k slot hk s differ) (λ o. n (oper-iff k hk _ _ .0 o))
-
-  -- OPER where a sum's operations changed; no other section has it [N6]
-  pub oper-line : (k slot : ℕ) → k < sections
-      → List·Memᴰ (line k slot (Changed Oper)) (noticeLines old new)
-      ↔ ((k ≡ SUMS) × Has k slot old × Has k slot new × (descriptionAt k slot old ≡ descriptionAt k slot new → ⊥))
-  oper-line k slot hk = (
-    (λ i. let g = line-iff k slot (Changed Oper) hk .0 i in (oper-iff k hk _ _ .0 (sym (g .3)), g .0, g .1, g .2)),
-    (λ g. line-iff k slot (Changed Oper) hk .1 (g .1, g .2, g .3, sym (oper-iff k hk _ _ .1 (g .0)))),
-  )
+          → let d = descriptionAt k slot old in let e = descriptionAt k slot new in (tellingOf k d e ≡ Alike) ↔ HitAlike (showsOf k d) (showsOf k e)
+      alike s differ = alike-exactly k hk _ _ (changed k slot hk s differ)
 
   -- a state's line is ALTR where a field differs, shows nothing, and is never another [N6, N8, N10]
   pub state-line : (slot : ℕ)
-      → List·Memᴰ (line STATES slot (Changed (Altr Nothing))) (noticeLines old new)
+      → List·Memᴰ (line STATES slot (Changed (Apart Nothing))) (noticeLines old new)
       ↔ (Shared STATES slot old new × (state.fromBytes (descriptionAt STATES slot old) ≡ state.fromBytes (descriptionAt STATES slot new) → ⊥))
-  unfolding changeOf kindOf descriptionSize
+  unfolding tellingOf kindOf descriptionSize
   state-line slot = (
     (λ i.
-        let g = line-iff STATES slot (Changed (Altr Nothing)) (lit< tt) .0 i in
+        let g = line-iff STATES slot (Changed (Apart Nothing)) (lit< tt) .0 i in
         ((g .0, g .1), (λ q. g .2 (fields-all (g .0) (g .1) q)))),
-    (λ g. line-iff STATES slot (Changed (Altr Nothing)) (lit< tt) .1 (g .0 .0, g .0 .1, (λ p. g .1 (ap state.fromBytes p)), refl)),
+    (λ g. line-iff STATES slot (Changed (Apart Nothing)) (lit< tt) .1 (g .0 .0, g .0 .1, (λ p. g .1 (ap state.fromBytes p)), refl)),
   )
     where
       fields-all : Has STATES slot old → Has STATES slot new → state.fromBytes (descriptionAt STATES slot old) ≡ state.fromBytes (descriptionAt STATES slot new)
@@ -140,16 +130,16 @@ module _ (old new : List ℕ) (bo : Bytes old) (bn : Bytes new) (ao : verdict ol
           ∙ ap state.toBytes q
           ∙ bytes-inverse _ (description-bytes new bn an STATES slot (lit< tt)) (description-whole new bn an STATES slot (lit< tt) hn)
 
-  pub state-line-alone : (slot : ℕ) (c : Change) → List·Memᴰ (line STATES slot (Changed c)) (noticeLines old new) → c ≡ Altr Nothing
-  unfolding changeOf kindOf
+  pub state-line-alone : (slot : ℕ) (c : Telling) → List·Memᴰ (line STATES slot (Changed c)) (noticeLines old new) → c ≡ Apart Nothing
+  unfolding tellingOf kindOf
   state-line-alone slot c i = line-iff STATES slot (Changed c) (lit< tt) .0 i .3
 
   -- a term's is the least [D3.7]
-  pub pattern-line-shows-the-least : (slot : ℕ) (input : Input) → List·Memᴰ (line TERMS slot (Changed (Altr input))) (noticeLines old new)
+  pub pattern-line-shows-the-least : (slot : ℕ) (input : Input) → List·Memᴰ (line TERMS slot (Changed (Apart input))) (noticeLines old new)
       → NoneLess (showsOf TERMS (descriptionAt TERMS slot old)) (showsOf TERMS (descriptionAt TERMS slot new)) input
   pattern-line-shows-the-least slot input i =
       let hk : TERMS < sections = omega arith in
-      let g = line-iff TERMS slot (Changed (Altr input)) hk .0 i in
+      let g = line-iff TERMS slot (Changed (Apart input)) hk .0 i in
       least _ _ input (description-bytes old bo ao TERMS slot hk) (description-bytes new bn an TERMS slot hk)
       (record-sound old bo ao TERMS slot hk (g .0) .description-fits) (record-sound new bn an TERMS slot hk (g .1) .description-fits) (sym (g .3))
 
@@ -158,9 +148,8 @@ module _ (old new : List ℕ) (bo : Bytes old) (bn : Bytes new) (ao : verdict ol
   finding-shows k slot New hk i = tt
   finding-shows k slot Gone hk i = tt
   finding-shows k slot Name hk i = tt
-  finding-shows k slot (Changed Oper) hk i = tt
-  finding-shows k slot (Changed Word) hk i = tt
-  finding-shows k slot (Changed (Altr input)) hk i = line-shows-one-that-does k slot input hk i .fits
+  finding-shows k slot (Changed Alike) hk i = tt
+  finding-shows k slot (Changed (Apart input)) hk i = line-shows-one-that-does k slot input hk i .fits
 
   pub all-lines-valid : AllValid (noticeLines old new)
   all-lines-valid =

@@ -16,7 +16,7 @@ use Rattle.range_telling.specs.Description as range-telling-kind
 use Rattle.range_telling.specs.Reduce.{reduceFrom, reduceOf}
 use Rattle.range_telling.specs.Telling.{turnValue, turnSample, tellLine, firstDiffer, tellMasks, tellBounds, tellReduced, rangeTelling}
 use Rattle.edge.specs.Words.{pairTable}
-use Rattle.kinds.specs.Table.{nameOf, changeOf}
+use Rattle.kinds.specs.Table.{nameOf, tellingOf}
 use Rattle.records.specs.Sections.{fieldBytes, kindOf, mostOf, descriptionSize, descriptionFault}
 use Rattle.records.specs.Records.{recordsFrom, find}
 use Rattle.sheet.specs.Reading.{among, recordFault, recordsVerdict, countVerdict, sectionVerdict, sectionsVerdict, verdict}
@@ -27,5 +27,5 @@ use Rattle.notice.specs.Notice.{linesFrom, sectionsLines, noticeLines, noticeTe
 use Rattle.demands.specs.Bench.{sheetWith, holds, allHold, bench}
 
 pub bench-holds : T (allHold bench)
-unfolding allHold holds bench sheetWith same gathered scattered dropLowest flipLine termWords chainWord nibbleTable tableOf down rangeHit rangeFault ones overLines range.sentWords range.chainWords range.lowerValue range.upperValue modelHit chainCarry carryFrom reduceFrom reduceOf turnValue turnSample tellLine firstDiffer tellMasks tellBounds tellReduced rangeTelling pairTable fieldBytes u32At allWithin render joined parse sectionsFrom recordsFrom kindOf descriptionSize mostOf descriptionFault range-kind.fault range-telling-kind.telling among recordFault recordsVerdict countVerdict sectionVerdict sectionsVerdict verdict find nameOf changeOf noticeText noticeLines sectionsLines linesFrom slotLines sharedLines text.render text.renderAll
+unfolding allHold holds bench sheetWith same gathered scattered dropLowest flipLine termWords chainWord nibbleTable tableOf down rangeHit rangeFault ones overLines range.sentWords range.chainWords range.lowerValue range.upperValue modelHit chainCarry carryFrom reduceFrom reduceOf turnValue turnSample tellLine firstDiffer tellMasks tellBounds tellReduced rangeTelling pairTable fieldBytes u32At allWithin render joined parse sectionsFrom recordsFrom kindOf descriptionSize mostOf descriptionFault range-kind.fault range-telling-kind.telling among recordFault recordsVerdict countVerdict sectionVerdict sectionsVerdict verdict find nameOf tellingOf noticeText noticeLines sectionsLines linesFrom slotLines sharedLines text.render text.renderAll
 bench-holds = tt

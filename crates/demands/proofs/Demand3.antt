@@ -19,8 +19,8 @@ use Rattle.range.specs.Description.{fromBytes}
 use Rattle.state.specs.Description as state
 use Rattle.range_telling.specs.Matter.{DroppedWords}
 use Rattle.kinds.specs.Table.{TERMS, RANGES, EDGES, SUMS, STATES, sections, showsOf}
-use Rattle.kinds.specs.declared.Change.{Change}
-use Rattle.kinds.specs.declared.Change.the-variants.{Altr}
+use Rattle.lut.specs.declared.Telling.{Telling}
+use Rattle.lut.specs.declared.Telling.the-variants.{Apart}
 use Rattle.records.specs.Sections.{descriptionOf}
 use Rattle.sheet.specs.Reading.{verdict}
 use Rattle.sheet.specs.Parsed.{parse, recordWith, AcceptedDescription}
@@ -111,39 +111,39 @@ module _ (old new : List ℕ) (bo : Bytes old) (bn : Bytes new) (ao : verdict ol
       rw lines-are-written (text-iff (line k slot f) (noticeLines old new) (record { known = hk; shows = s }) (lines.all-lines-valid old new bo bn ao an))
 
   -- the input that an ALTR line shows tells the two apart [D3.6]
-  pub line-shows-one-that-does : (k slot : ℕ) (input : Input) → k < sections → Fits input → Stands (written r out′) k slot (Changed (Altr input))
+  pub line-shows-one-that-does : (k slot : ℕ) (input : Input) → k < sections → Fits input → Stands (written r out′) k slot (Changed (Apart input))
       → TellsApart (showsOf k (descriptionAt k slot old)) (showsOf k (descriptionAt k slot new)) input
   line-shows-one-that-does k slot input hk f i =
-      lines.line-shows-one-that-does old new bo bn ao an k slot input hk (stands-iff k slot (Changed (Altr input)) hk f .0 i)
+      lines.line-shows-one-that-does old new bo bn ao an k slot input hk (stands-iff k slot (Changed (Apart input)) hk f .0 i)
 
-  -- a shared slot of any section but the sums has an ALTR line where some input tells the two apart, and only there [D3.5]
-  pub alteration-iff-some-input-tells : (k slot : ℕ) → k < sections → (k ≡ SUMS → ⊥) → Shared k slot old new
+  -- a shared slot has an ALTR line where some input tells the two apart, and only there [D3.5]
+  pub alteration-iff-some-input-tells : (k slot : ℕ) → k < sections → Shared k slot old new
       → AlterationIn (written r out′) k slot ↔ SomeInputTells k (descriptionAt k slot old) (descriptionAt k slot new)
-  alteration-iff-some-input-tells k slot hk n s = (
+  alteration-iff-some-input-tells k slot hk s = (
     (λ a. record { input = a .input; tells = line-shows-one-that-does k slot (a .input) hk (a .fits) (a .there) }),
     (λ w.
-        let l = lines.alteration-iff-some-input-tells old new bo bn ao an k slot hk n s .1 w in
+        let l = lines.alteration-iff-some-input-tells old new bo bn ao an k slot hk s .1 w in
         let f = lines.line-shows-one-that-does old new bo bn ao an k slot (l .input) hk (l .there) .fits in
-        record { input = l .input; fits = f; there = stands-iff k slot (Changed (Altr (l .input))) hk f .1 (l .there) }),
+        record { input = l .input; fits = f; there = stands-iff k slot (Changed (Apart (l .input))) hk f .1 (l .there) }),
   )
 
   -- a term's line shows the least [D3.7]
-  pub pattern-line-shows-the-least : (slot : ℕ) (input : Input) → Fits input → Stands (written r out′) TERMS slot (Changed (Altr input))
+  pub pattern-line-shows-the-least : (slot : ℕ) (input : Input) → Fits input → Stands (written r out′) TERMS slot (Changed (Apart input))
       → NoneLess (showsOf TERMS (descriptionAt TERMS slot old)) (showsOf TERMS (descriptionAt TERMS slot new)) input
   pattern-line-shows-the-least slot input f i =
-      lines.pattern-line-shows-the-least old new bo bn ao an slot input (stands-iff TERMS slot (Changed (Altr input)) (omega arith) f .0 i)
+      lines.pattern-line-shows-the-least old new bo bn ao an slot input (stands-iff TERMS slot (Changed (Apart input)) (omega arith) f .0 i)
 
   -- a state's line is ALTR without a sample where a field differs, and only there [D3.10]
   pub state-line-iff-a-field-differs : (slot : ℕ)
-      → Stands (written r out′) STATES slot (Changed (Altr Nothing))
+      → Stands (written r out′) STATES slot (Changed (Apart Nothing))
       ↔ (Shared STATES slot old new × (state.fromBytes (descriptionAt STATES slot old) ≡ state.fromBytes (descriptionAt STATES slot new) → ⊥))
   state-line-iff-a-field-differs slot =
-      let there = stands-iff STATES slot (Changed (Altr Nothing)) (lit< tt) tt in
+      let there = stands-iff STATES slot (Changed (Apart Nothing)) (lit< tt) tt in
       let says = lines.state-line old new bo bn ao an slot in
       (λ i. says .0 (there .0 i), λ g. there .1 (says .1 g))
 
   -- and no other line tells of its fields [D3.10]
-  pub state-has-no-other-line : (slot : ℕ) (c : Change) → Shows (Changed c) → Stands (written r out′) STATES slot (Changed c) → c ≡ Altr Nothing
+  pub state-has-no-other-line : (slot : ℕ) (c : Telling) → Shows (Changed c) → Stands (written r out′) STATES slot (Changed c) → c ≡ Apart Nothing
   state-has-no-other-line slot c s i = lines.state-line-alone old new bo bn ao an slot c (stands-iff STATES slot (Changed c) (lit< tt) s .0 i)
 
   -- a slot that one sheet alone has gets NEW or GONE, and no other slot does [D3.8]

@@ -17,7 +17,7 @@ use Rattle.lut.specs.declared.Input.{Input}
 use Rattle.lut.specs.declared.Input.the-variants.{Nothing, Sample, Samples, Sources}
 use Rattle.compare.specs.Same.{same}
 use Rattle.kinds.specs.Table.{sections, kindOf, nameOf}
-use Rattle.kinds.specs.declared.Change.the-variants.{Oper, Word, Altr}
+use Rattle.lut.specs.declared.Telling.the-variants.{Alike, Apart}
 use Rattle.notice.specs.declared.Finding.{Finding}
 use Rattle.notice.specs.declared.Finding.the-variants.{New, Gone, Name, Changed}
 use Rattle.notice.specs.declared.Line.{Line}
@@ -92,9 +92,8 @@ findingBack : List ℕ → Finding
 findingBack b =
     cond (eqb (getD b 0 0) 78) (cond (eqb (getD b 1 0) 69) New Name)
     (cond (eqb (getD b 0 0) 71) Gone
-    (cond (eqb (getD b 0 0) 79) (Changed Oper)
-    (cond (eqb (getD b 0 0) 87) (Changed Word)
-    (Changed (Altr (inputBack (drop 4 b)))))))
+    (cond (eqb (getD b 0 0) 87) (Changed Alike)
+    (Changed (Apart (inputBack (drop 4 b))))))
 
 -- the line at the front of rendered text
 lineBack : List ℕ → Line
@@ -105,9 +104,8 @@ abbrev pub Shows : Finding → Type 0
 Shows New = Unit {0}
 Shows Gone = Unit {0}
 Shows Name = Unit {0}
-Shows (Changed Oper) = Unit {0}
-Shows (Changed Word) = Unit {0}
-Shows (Changed (Altr input)) = Fits input
+Shows (Changed Alike) = Unit {0}
+Shows (Changed (Apart input)) = Fits input
 
 pub record Valid (l : Line) : Type 0 where
   pub known : l .section < sections
@@ -129,9 +127,8 @@ unfolding findingBack
 finding-back New rest h = refl
 finding-back Gone rest h = refl
 finding-back Name rest h = refl
-finding-back (Changed Oper) rest h = refl
-finding-back (Changed Word) rest h = refl
-finding-back (Changed (Altr i)) rest h = ap (λ (x : Input). Changed (Altr x)) (input-back i rest h)
+finding-back (Changed Alike) rest h = refl
+finding-back (Changed (Apart i)) rest h = ap (λ (x : Input). Changed (Apart x)) (input-back i rest h)
 
 slot-back : (s : ℕ) (rest : List ℕ) → slotBack (slotText s ++ rest) ≡ s
 unfolding slotBack

@@ -16,7 +16,7 @@ use Rattle.records.specs.Sections.{sections, fieldBytes, kindOf, mostOf, descri
 use Rattle.records.specs.Records.{recordsFrom, find}
 use Rattle.sheet.specs.Reading.{among, recordFault, recordsVerdict, countVerdict, sectionVerdict, sectionsVerdict, verdict}
 use Rattle.sheet.specs.Parsed.{joined, render, sectionsFrom, parse}
-use Rattle.kinds.specs.Table.{nameOf, changeOf}
+use Rattle.kinds.specs.Table.{nameOf, tellingOf}
 use Rattle.term.specs.Description as term-kind
 use Rattle.term.specs.Telling.{termTelling}
 use Rattle.range.specs.Description as range-kind
@@ -134,5 +134,5 @@ allGive (p ∷ ps) =
     isAccepted (verdict (p .old)) && isAccepted (verdict (p .new)) && same (noticeText (p .old) (p .new)) (p .text) && allGive ps
 
 pub notices-hold : T (allGive pairs)
-unfolding allGive pairs pair sheetOf programmeOf recordOf stateOf doorlock doorlk left right line TERM RANG SUMS STAT NAME NEW GONE WORD ALTR ALTR4 fieldBytes render joined parse sectionsFrom recordsFrom kindOf descriptionSize mostOf find same u32At noticeText noticeLines sectionsLines linesFrom slotLines sharedLines nameOf changeOf term-kind.telling range-telling-kind.telling text.render text.renderAll termTelling trailingZeros rangeTelling tellReduced tellBounds tellMasks firstDiffer tellLine turnSample turnValue reduceOf reduceFrom gathered scattered dropLowest flipLine rangeHit among allWithin descriptionFault term-kind.fault range-kind.fault sum-kind.fault state-kind.fault rangeFault ones recordFault recordsVerdict countVerdict sectionVerdict sectionsVerdict verdict
+unfolding allGive pairs pair sheetOf programmeOf recordOf stateOf doorlock doorlk left right line TERM RANG SUMS STAT NAME NEW GONE WORD ALTR ALTR4 fieldBytes render joined parse sectionsFrom recordsFrom kindOf descriptionSize mostOf find same u32At noticeText noticeLines sectionsLines linesFrom slotLines sharedLines nameOf tellingOf term-kind.telling range-telling-kind.telling text.render text.renderAll termTelling trailingZeros rangeTelling tellReduced tellBounds tellMasks firstDiffer tellLine turnSample turnValue reduceOf reduceFrom gathered scattered dropLowest flipLine rangeHit among allWithin descriptionFault term-kind.fault range-kind.fault sum-kind.fault state-kind.fault rangeFault ones recordFault recordsVerdict countVerdict sectionVerdict sectionsVerdict verdict
 notices-hold = tt

@@ -7,7 +7,7 @@ use native.Mathlib.Omega.{arith}
 use lib.ListN.{length, getD, length-map, List·getD-map}
 use Rattle.compare.specs.Same.{same}
 use Rattle.buffer.proofs.Rising.{Climbs, climbs-from, climbs-below, climbs-rise, map-climbs}
-use Rattle.kinds.specs.Table.{changeOf}
+use Rattle.kinds.specs.Table.{tellingOf}
 use Rattle.kinds.proofs.Rows.{most-byte}
 use Rattle.records.specs.Sections.{sections, mostOf, labelOf, descriptionOf}
 use Rattle.records.specs.Records.{find}
@@ -53,9 +53,9 @@ slot-rising k slot (x ∷ old) (y ∷ new) =
     let d = descriptionOf (x ∷ old) in
     let e = descriptionOf (y ∷ new) in
     let at = (k * 256 + slot) * 2 in
-    map-climbs key (unlessSame (labelOf (x ∷ old)) (labelOf (y ∷ new)) (line k slot Name)) (unlessSame d e (line k slot (Changed (changeOf k d e))))
+    map-climbs key (unlessSame (labelOf (x ∷ old)) (labelOf (y ∷ new)) (line k slot Name)) (unlessSame d e (line k slot (Changed (tellingOf k d e))))
     (rising-maybe (same (labelOf (x ∷ old)) (labelOf (y ∷ new))) (line k slot Name) at (at + 1) (omega arith) (omega arith))
-    (rising-maybe (same d e) (line k slot (Changed (changeOf k d e))) (at + 1) ((k * 256 + slot + 1) * 2) (omega arith) (omega arith))
+    (rising-maybe (same d e) (line k slot (Changed (tellingOf k d e))) (at + 1) ((k * 256 + slot + 1) * 2) (omega arith) (omega arith))
 
 lines-rising : (k n slot : ℕ) (os ns : List (List ℕ)) → Rising ((k * 256 + slot) * 2) ((k * 256 + (slot + n)) * 2) (linesFrom k n slot os ns)
 unfolding linesFrom

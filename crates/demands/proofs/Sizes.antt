@@ -38,12 +38,16 @@ use Rattle.reader.specs.Back.{sheetIn, readBack}
 use Rattle.reader.proofs.Theorems as reader
 use Rattle.compiler.proofs.Theorems as compiler
 use Rattle.notice.proofs.Lengths as notice
-use Rattle.kinds.specs.Table.{nameOf, changeOf}
+use Rattle.kinds.specs.Table.{nameOf, tellingOf}
 use Rattle.range_telling.specs.Description as range-telling-kind
 use Rattle.edge.specs.Description as edge-kind
 use Rattle.term.specs.Description as term-kind
 use Rattle.range.specs.Description as range-kind
 use Rattle.sum.specs.Description as sum-kind
+use Rattle.sum.specs.Words.{wordsOf}
+use Rattle.sum.specs.Model.{inputsOf, sumHit}
+use Rattle.sum_telling.specs.Description as sum-telling-kind
+use Rattle.sum_telling.specs.Telling.{firstFrom, leastPattern, sumTelling}
 use Rattle.state.specs.Description as state-kind
 
 -- n records from slot s on with this description, each with a label byte of its own throughout, from this one on
@@ -72,12 +76,12 @@ newer =
     ∷ slots 16 0 0x21 (fieldBytes (1 ∷ []) ++ replicate 9 1)
     ∷ [])
 
--- no notice is longer than 2,172 bytes, and one of two accepted sheets is as long [N11]
-pub longest-notice : (old new : List ℕ) → length (noticeText old new) ≤ 2172
+-- no notice is longer than 2,412 bytes, and one of two accepted sheets is as long [N11]
+pub longest-notice : (old new : List ℕ) → length (noticeText old new) ≤ 2412
 longest-notice = notice.at-most
 
-pub longest-notice-reached : length (noticeText older newer) ≡ 2172
-unfolding fieldBytes slots older newer render joined parse sectionsFrom recordsFrom kindOf descriptionSize mostOf find same u32At noticeText noticeLines sectionsLines linesFrom slotLines sharedLines nameOf changeOf term-kind.telling range-telling-kind.telling edge-kind.telling text.render text.renderAll termTelling trailingZeros rangeTelling tellReduced tellBounds tellMasks firstDiffer tellLine turnSample turnValue reduceOf reduceFrom gathered scattered dropLowest flipLine rangeHit tellBy without
+pub longest-notice-reached : length (noticeText older newer) ≡ 2412
+unfolding fieldBytes slots older newer render joined parse sectionsFrom recordsFrom kindOf descriptionSize mostOf find same u32At noticeText noticeLines sectionsLines linesFrom slotLines sharedLines nameOf tellingOf term-kind.telling range-telling-kind.telling edge-kind.telling sum-telling-kind.telling sumTelling leastPattern firstFrom sumHit inputsOf wordsOf text.render text.renderAll termTelling trailingZeros rangeTelling tellReduced tellBounds tellMasks firstDiffer tellLine turnSample turnValue reduceOf reduceFrom gathered scattered dropLowest flipLine rangeHit tellBy without
 longest-notice-reached = refl
 
 pub longest-notice-sheets : (verdict older ≡ Accepted) × (verdict newer ≡ Accepted)

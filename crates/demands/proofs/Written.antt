@@ -12,7 +12,7 @@ use Rattle.lines.proofs.Computed.{every-below}
 use Rattle.lut.specs.declared.Input.{Input}
 use Rattle.lut.specs.declared.Input.the-variants.{Nothing, Sample, Samples, Sources}
 use Rattle.kinds.specs.Table.{sections, kindOf, nameOf}
-use Rattle.kinds.specs.declared.Change.the-variants.{Oper, Word, Altr}
+use Rattle.lut.specs.declared.Telling.the-variants.{Alike, Apart}
 use Rattle.notice.specs.declared.Finding.{Finding}
 use Rattle.notice.specs.declared.Finding.the-variants.{New, Gone, Name, Changed}
 use Rattle.notice.specs.declared.Line.{Line}
@@ -78,18 +78,16 @@ said : Finding → List ℕ
 said New = 78 ∷ 69 ∷ 87 ∷ []
 said Gone = 71 ∷ 79 ∷ 78 ∷ 69 ∷ []
 said Name = 78 ∷ 65 ∷ 77 ∷ 69 ∷ []
-said (Changed Oper) = 79 ∷ 80 ∷ 69 ∷ 82 ∷ []
-said (Changed Word) = 87 ∷ 79 ∷ 82 ∷ 68 ∷ []
-said (Changed (Altr input)) = (65 ∷ 76 ∷ 84 ∷ 82 ∷ []) ++ inputText input
+said (Changed Alike) = 87 ∷ 79 ∷ 82 ∷ 68 ∷ []
+said (Changed (Apart input)) = (65 ∷ 76 ∷ 84 ∷ 82 ∷ []) ++ inputText input
 
 said-feedless : (f : Finding) → Feedless (said f)
 unfolding said
 said-feedless New = (refl, (refl, (refl, tt)))
 said-feedless Gone = (refl, (refl, (refl, (refl, tt))))
 said-feedless Name = (refl, (refl, (refl, (refl, tt))))
-said-feedless (Changed Oper) = (refl, (refl, (refl, (refl, tt))))
-said-feedless (Changed Word) = (refl, (refl, (refl, (refl, tt))))
-said-feedless (Changed (Altr input)) =
+said-feedless (Changed Alike) = (refl, (refl, (refl, (refl, tt))))
+said-feedless (Changed (Apart input)) =
     feedless-append (65 ∷ 76 ∷ 84 ∷ 82 ∷ []) (inputText input) (refl, (refl, (refl, (refl, tt)))) (input-feedless input)
 
 said-text : (f : Finding) → findingText f ≡ said f ++ (10 ∷ [])
@@ -97,9 +95,8 @@ unfolding said
 said-text New = refl
 said-text Gone = refl
 said-text Name = refl
-said-text (Changed Oper) = refl
-said-text (Changed Word) = refl
-said-text (Changed (Altr input)) = refl
+said-text (Changed Alike) = refl
+said-text (Changed (Apart input)) = refl
 
 -- ---- the lines of a notice
 

@@ -6,7 +6,7 @@ use lib.Dec.{eqb}
 use lib.ListN.{take}
 use Rattle.lut.specs.declared.Input.{Input}
 use Rattle.lut.specs.Input.{Fits}
-use Rattle.kinds.specs.declared.Change.the-variants.{Altr}
+use Rattle.lut.specs.declared.Telling.the-variants.{Apart}
 use Rattle.notice.specs.declared.Finding.{Finding}
 use Rattle.notice.specs.declared.Finding.the-variants.{Changed}
 use Rattle.notice.specs.Text.{render}
@@ -36,4 +36,4 @@ Stands text k slot f = List·Memᴰ (render (line k slot f)) (linesIn text)
 pub record AlterationIn (text : List ℕ) (k slot : ℕ) : Type 0 where
   pub input : Input
   pub fits : Fits input
-  pub there : Stands text k slot (Changed (Altr input))
+  pub there : Stands text k slot (Changed (Apart input))

@@ -1,5 +1,5 @@
--- What the rooms above need of every section, stated once: how many words a description has, the way there and back, and what a
--- change says. Each kind's part of it is in the kind's own crate. Assumes nothing.
+-- What the rooms above need of every section, stated once: how many words a description has, the way there and back, and what
+-- tells two apart. Each kind's part of it is in the kind's own crate. Assumes nothing.
 use Prim.Native.Nat.{ℕ, zero, suc, _+_, _*_, _≤_, _<_, _^_}
 use mathlib.Core.List.{List, [], _∷_, _++_, map, flatten}
 use mathlib.Core.Path.{_≡_, refl, sym, ap, ap₂, _∙_}
@@ -12,12 +12,9 @@ use Rattle.peek.specs.Bytes.{Bytes}
 use Rattle.peek.specs.Fields.{Writes}
 use mathlib.Core.Logic.{_↔_}
 use Rattle.lut.specs.Input.{inNumbers}
-use Rattle.lut.specs.Telling as lut
-use Rattle.lut.specs.Telling.{HitAlike}
-use Rattle.lut.proofs.Asked.{alike-in-numbers, apart-in-numbers}
-use Rattle.lut.specs.declared.Input.{Input}
-use Rattle.lut.specs.declared.Telling.{Telling}
-use Rattle.lut.specs.declared.Telling.the-variants as Telling
+use Rattle.lut.specs.Telling.{HitAlike, Says}
+use Rattle.lut.specs.declared.Telling.the-variants.{Alike}
+use Rattle.lut.proofs.Asked.{alike-iff, says-in-numbers}
 use Rattle.term.specs.Description as term
 use Rattle.term.proofs.Ways as term-ways
 use Rattle.term.proofs.Theorems as term-theorems
@@ -28,12 +25,12 @@ use Rattle.range_telling.proofs.Theorems as range-theorems
 use Rattle.edge.specs.Description as edge
 use Rattle.edge.proofs.Ways as edge-ways
 use Rattle.edge.proofs.Theorems as edge-theorems
+use Rattle.sum.specs.Description as sum
 use Rattle.sum.proofs.Ways as sum-ways
+use Rattle.sum_telling.specs.Description as sum-telling
+use Rattle.sum_telling.proofs.Theorems as sum-theorems
 use Rattle.state.proofs.Ways as state-ways
-use Rattle.kinds.specs.declared.Change.{Change}
-use Rattle.kinds.specs.declared.Change.the-variants.{Oper, Word, Altr}
-use Rattle.kinds.specs.Change.{told, Says}
-use Rattle.kinds.specs.Table.{Kind, termKind, rangeKind, edgeKind, stateKind, sections, kindOf, descriptionSize, descriptionFault, Accepted, chainCount, chainLength, wordsOf, descriptionRead, cutDescription, showsOf, changeOf, entryOf, missingOf, entrySize, lengthsOf, pieces, chainsOf}
+use Rattle.kinds.specs.Table.{Kind, termKind, rangeKind, edgeKind, sumKind, stateKind, sections, kindOf, descriptionSize, descriptionFault, Accepted, chainCount, chainLength, wordsOf, descriptionRead, cutDescription, showsOf, tellingOf, entryOf, missingOf, entrySize, lengthsOf, pieces, chainsOf}
 use Rattle.kinds.proofs.Rows.{of-kind, of-any, at-most, size-positive}
 
 -- ---- words and chains
@@ -135,11 +132,7 @@ faultless-iff-accepted (suc (suc (suc zero))) h = sum-ways.faultless-iff
 faultless-iff-accepted (suc (suc (suc (suc zero)))) h = state-ways.faultless-iff
 faultless-iff-accepted (suc (suc (suc (suc (suc k))))) h = absurd (omega arith)
 
--- ---- what a change says
-
-told-says : (f g : Input → Bool) (t : Telling) → lut.Says f g t → Says (inNumbers f) (inNumbers g) (told t)
-told-says f g Telling.Alike h = alike-in-numbers f g .1 h
-told-says f g (Telling.Apart i) h = apart-in-numbers f g i .1 h
+-- ---- what tells two apart says what it should
 
 -- two descriptions of one kind, without fault, whose bytes differ
 pub record Changed (x : Kind) (d e : List ℕ) : Type 0 where
@@ -151,32 +144,36 @@ pub record Changed (x : Kind) (d e : List ℕ) : Type 0 where
   pub new-faultless : x .fault e ≡ 0
   pub differ : d ≡ e → ⊥
 
-abbrev ChangeSays : Kind → Type 0
-ChangeSays x = (d e : List ℕ) → Changed x d e → Says (x .shows d) (x .shows e) (x .change d e)
+abbrev TellingSays : Kind → Type 0
+TellingSays x = (d e : List ℕ) → Changed x d e → Says (x .shows d) (x .shows e) (x .telling d e)
 
-term-change : ChangeSays termKind
+terms-say : TellingSays termKind
 unfolding term.telling
-term-change d e c =
-    told-says _ _ (term.telling d e)
+terms-say d e c =
+    says-in-numbers _ _ (term.telling d e)
     (term-theorems.telling-says (term.fromBytes d) (term.fromBytes e) (term-ways.accepted d (c .old-bytes) (c .old-faultless))
     (term-ways.accepted e (c .new-bytes) (c .new-faultless)))
 
-range-change : ChangeSays rangeKind
+ranges-say : TellingSays rangeKind
 unfolding range-telling.telling
-range-change d e c =
-    told-says _ _ (range-telling.telling d e)
+ranges-say d e c =
+    says-in-numbers _ _ (range-telling.telling d e)
     (range-theorems.telling-says (range.fromBytes d) (range.fromBytes e) (range-ways.accepted d (c .old-bytes) (c .old-faultless))
     (range-ways.accepted e (c .new-bytes) (c .new-faultless)))
 
-edge-change : ChangeSays edgeKind
+edges-say : TellingSays edgeKind
 unfolding edge.telling
-edge-change d e c =
-    told-says _ _ (edge.telling d e)
+edges-say d e c =
+    says-in-numbers _ _ (edge.telling d e)
     (edge-theorems.telling-says (edge.fromBytes d) (edge.fromBytes e) (edge-ways.accepted d (c .old-bytes) (c .old-faultless))
     (edge-ways.accepted e (c .new-bytes) (c .new-faultless)))
 
-state-change : ChangeSays stateKind
-state-change d e c =
+sums-say : TellingSays sumKind
+unfolding sum-telling.telling
+sums-say d e c = says-in-numbers _ _ (sum-telling.telling d e) (sum-theorems.telling-says (sum.fromBytes d) (sum.fromBytes e))
+
+states-say : TellingSays stateKind
+states-say d e c =
     record {
       fits = tt;
       tells =
@@ -185,21 +182,15 @@ state-change d e c =
           (state-ways.words-differ d e (c .old-bytes) (c .new-bytes) (c .old-whole) (c .new-whole) (c .old-faultless) (c .new-faultless) q);
     }
 
--- ALTR with an input that tells the two apart, WORD where none does, of every section: no notice may say either each
--- time [D3.5, D3.6, K4]
-pub change-says : (k : ℕ) → k < sections → (d e : List ℕ) → Changed (kindOf k) d e → Says (showsOf k d) (showsOf k e) (changeOf k d e)
-unfolding showsOf changeOf
-change-says k h = of-kind ChangeSays (term-change, (range-change, (edge-change, ((λ d e c. tt), (state-change, tt))))) k h
+-- an input that tells the two apart, or that none does, of every section: no notice may say either each time
+-- [D3.5, D3.6, K4]
+pub telling-says : (k : ℕ) → k < sections → (d e : List ℕ) → Changed (kindOf k) d e → Says (showsOf k d) (showsOf k e) (tellingOf k d e)
+unfolding showsOf tellingOf
+telling-says k h = of-kind TellingSays (terms-say, (ranges-say, (edges-say, (sums-say, (states-say, tt))))) k h
 
--- a change is WORD exactly where no input tells, and carries an input that tells otherwise; unless it is OPER
-pub word-iff-alike : (k : ℕ) → k < sections → (d e : List ℕ) → Changed (kindOf k) d e
-    → (changeOf k d e ≡ Oper → ⊥) → (changeOf k d e ≡ Word) ↔ HitAlike (showsOf k d) (showsOf k e)
-word-iff-alike k h d e differ = go (changeOf k d e) (change-says k h d e differ)
-  where
-    go : (c : Change) → Says (showsOf k d) (showsOf k e) c → (c ≡ Oper → ⊥) → (c ≡ Word) ↔ HitAlike (showsOf k d) (showsOf k e)
-    go Oper s n = absurd (n refl)
-    go Word s n = ((λ _. s), (λ _. refl))
-    go (Altr i) s n = ((λ q. let z : _≡_ {A = ℕ} 0 1 = cc in absurd (omega arith)), (λ alike. absurd (s .tells (alike i (s .fits)))))
+-- it is Alike exactly where no input tells
+pub alike-exactly : (k : ℕ) → k < sections → (d e : List ℕ) → Changed (kindOf k) d e → (tellingOf k d e ≡ Alike) ↔ HitAlike (showsOf k d) (showsOf k e)
+alike-exactly k h d e c = alike-iff (showsOf k d) (showsOf k e) (tellingOf k d e) (telling-says k h d e c)
 
 -- ---- every word has 32 bits
 

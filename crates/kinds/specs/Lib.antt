@@ -1,3 +1,2 @@
-pub mod Change
 pub mod Entry
 pub mod Table

@@ -16,16 +16,16 @@ use Rattle.sum.specs.Description as sum
 use Rattle.sum.specs.Operation as sum-rule
 use Rattle.sum.specs.Model as sum-model
 use Rattle.sum.specs.Address.{sumAddress}
+use Rattle.sum_telling.specs.Description as sum-telling
 use Rattle.state.specs.Description as state
 use Rattle.state.specs.Fields as state-rule
 use Rattle.state.specs.Words as state-words
 use Rattle.lut.specs.Input.{inNumbers, onNothing}
 use Rattle.lut.specs.declared.Input.{Input}
 use Rattle.lut.specs.declared.Input.the-variants.{Nothing}
+use Rattle.lut.specs.declared.Telling.{Telling}
+use Rattle.lut.specs.declared.Telling.the-variants.{Alike, Apart}
 use Rattle.kinds.specs.declared.Row.{Row}
-use Rattle.kinds.specs.declared.Change.{Change}
-use Rattle.kinds.specs.declared.Change.the-variants.{Oper, Altr}
-use Rattle.kinds.specs.Change.{told}
 use Rattle.kinds.specs.Entry.{patternEntry, rangeEntry, edgeEntry}
 
 -- what each kind has, a row of the table of sections [S13]
@@ -46,9 +46,9 @@ pub record Kind : Type 0 where
   pub words : List ℕ → List ℕ
   pub back : List ℕ → List ℕ
   pub cut : List ℕ → List ℕ
-  -- what a description shows on an input, and what is found of two whose bytes differ
+  -- what a description shows on an input, and what tells two whose bytes differ apart
   pub shows : List ℕ → Input → ℕ
-  pub change : List ℕ → List ℕ → Change
+  pub telling : List ℕ → List ℕ → Telling
   -- a description's entry in a bench's table, and the entry of a slot without record, which never hits
   pub entry : List ℕ → List ℕ
   pub missing : List ℕ
@@ -89,7 +89,7 @@ termKind =
       back = term.back;
       cut = term.cut;
       shows = λ d. inNumbers (term-rule.hit (term.fromBytes d));
-      change = λ old new. told (term.telling old new);
+      telling = term.telling;
       entry = λ d. patternEntry (term.fromBytes d);
       missing = 1 ∷ 0 ∷ [];
     }
@@ -110,7 +110,7 @@ rangeKind =
       back = range.back;
       cut = λ d. d;
       shows = λ d. inNumbers (range-rule.hit (range.fromBytes d));
-      change = λ old new. told (range-telling.telling old new);
+      telling = range-telling.telling;
       entry = λ d. rangeEntry (range.fromBytes d);
       missing = 1 ∷ 0 ∷ 0 ∷ [];
     }
@@ -131,12 +131,12 @@ edgeKind =
       back = edge.back;
       cut = λ d. d;
       shows = λ d. inNumbers (edge-rule.hit (edge.fromBytes d));
-      change = λ old new. told (edge.telling old new);
+      telling = edge.telling;
       entry = λ d. edgeEntry (edge.fromBytes d);
       missing = 0 ∷ 0 ∷ 0 ∷ [];
     }
 
--- sums: SUMS and S, at most 48, one chain of six words; their change is always OPER [S1, W14, N3, N6, C7]
+-- sums: SUMS and S, at most 48, one chain of six words [S1, W14, N3, C7]
 abbrev pub sumKind : Kind
 sumKind =
     record {
@@ -152,13 +152,13 @@ sumKind =
       back = sum.back;
       cut = λ d. d;
       shows = λ d. inNumbers (sum-model.hit (sum.fromBytes d));
-      change = λ old new. Oper;
+      telling = sum-telling.telling;
       entry = sum.words;
       missing = 0 ∷ 0 ∷ 0 ∷ 0 ∷ 0 ∷ 0 ∷ [];
     }
 
--- states: STAT and Q, at most 16, address the slot, one chain of one word; their change is ALTR without an input
--- [S1, W19, N3, N6, N8, C7]
+-- states: STAT and Q, at most 16, address the slot, one chain of one word; two that differ are told apart by nothing
+-- that is shown [S1, W19, N3, N6, N8, C7]
 abbrev pub stateKind : Kind
 stateKind =
     record {
@@ -174,7 +174,7 @@ stateKind =
       back = state.back;
       cut = λ d. d;
       shows = λ d. onNothing (state-words.wordOf (state.fromBytes d));
-      change = λ old new. Altr Nothing;
+      telling = λ old new. Apart Nothing;
       entry = state.words;
       missing = 1 ∷ [];
     }
@@ -195,7 +195,7 @@ noKind =
       back = λ ws. [];
       cut = λ d. d;
       shows = λ d i. 0;
-      change = λ old new. Oper;
+      telling = λ old new. Alike;
       entry = λ d. [];
       missing = [];
     }
@@ -264,9 +264,9 @@ cutDescription k d = kindOf k .cut d
 unfoldable pub showsOf : (k : ℕ) (d : List ℕ) → Input → ℕ
 showsOf k d = kindOf k .shows d
 
--- computed: what is found of two descriptions whose bytes differ; what it means is theorem change-says [B6, N6, N10]
-unfoldable pub changeOf : (k : ℕ) (old new : List ℕ) → Change
-changeOf k old new = kindOf k .change old new
+-- computed: what tells two descriptions of section k apart whose bytes differ; theorem telling-says [B6, N6, N10]
+unfoldable pub tellingOf : (k : ℕ) (old new : List ℕ) → Telling
+tellingOf k old new = kindOf k .telling old new
 
 -- the entry of a description of section k in a bench's table; of a sum or a state it is the words [R11]
 unfoldable pub entryOf : (k : ℕ) (d : List ℕ) → List ℕ

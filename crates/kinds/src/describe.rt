@@ -1,9 +1,7 @@
 // What each kind says of its descriptions.
 ghost use mathlib.Core.Path.{_≡_};
 ghost use Rattle.buffer.specs.Room.{bytes, Delivered};
-ghost use Rattle.kinds.specs.Change.{told};
-ghost use Rattle.kinds.specs.Table.{descriptionFault, wordsOf, descriptionRead, changeOf};
-use crate::Change;
+ghost use Rattle.kinds.specs.Table.{descriptionFault, wordsOf, descriptionRead, tellingOf};
 use crate::EDGES;
 use crate::RANGES;
 use crate::STATES;
@@ -55,26 +53,17 @@ pub fn put_back(out: &mut [u8], section: usize, words: &[u32]) -> Outcome
     }
 }
 
-// ALTR with the input that tells two descriptions apart, WORD if none does.
-fn told_change(telling: Telling) -> Change
-    ensures { λ r. ⌜ r ≡ told telling ⌝ }
-{
-    match telling {
-        Telling::Alike => Change::Word,
-        Telling::Apart(input) => Change::Altr(input),
-    }
-}
-
-// What is found of two descriptions whose bytes differ.
-pub fn change_of(section: usize, old: &[u8], new: &[u8]) -> Change
-    ensures { λ r. ⌜ r ≡ changeOf section (now (old .entry)) (now (new .entry)) ⌝ }
+// What tells two descriptions of a section apart whose bytes differ; of states, which are asked with nothing, that is
+// nothing, and of a section that no sheet has there is none.
+pub fn telling_of(section: usize, old: &[u8], new: &[u8]) -> Telling
+    ensures { λ r. ⌜ r ≡ tellingOf section (now (old .entry)) (now (new .entry)) ⌝ }
 {
     match section {
-        TERMS => told_change(term::telling_of(old, new)),
-        RANGES => told_change(range_telling::telling_of(old, new)),
-        EDGES => told_change(edge::telling_of(old, new)),
-        SUMS => Change::Oper,
-        STATES => Change::Altr(Input::Nothing),
-        _ => Change::Oper,
+        TERMS => term::telling_of(old, new),
+        RANGES => range_telling::telling_of(old, new),
+        EDGES => edge::telling_of(old, new),
+        SUMS => sum_telling::telling_of(old, new),
+        STATES => Telling::Apart(Input::Nothing),
+        _ => Telling::Alike,
     }
 }

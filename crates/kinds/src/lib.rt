@@ -7,10 +7,10 @@ mod entries;
 mod layout;
 
 pub use back::place_at;
-pub use describe::change_of;
 pub use describe::fault;
 pub use describe::put_back;
 pub use describe::put_words;
+pub use describe::telling_of;
 pub use entries::put_entry;
 pub use entries::put_missing;
 pub use layout::address;
@@ -58,14 +58,4 @@ pub struct Row {
 pub struct Place {
     pub section: usize,
     pub slot: u8,
-}
-
-// What is found of two descriptions whose bytes differ.
-pub enum Change {
-    // Other operations.
-    Oper,
-    // No input tells the two apart.
-    Word,
-    // This input tells them apart; of two states, which are asked with nothing, a field differs.
-    Altr(lut::Input),
 }

@@ -9,7 +9,7 @@ use Rattle.lut.specs.declared.Input.the-variants.{Nothing, Sample, Sampl
 use Rattle.lut.specs.declared.Telling.{Telling}
 use Rattle.lut.specs.declared.Telling.the-variants.{Alike, Apart}
 use Rattle.lut.specs.Table.{oneIf}
-use Rattle.lut.specs.Input.{onSample, onSamples, inNumbers}
+use Rattle.lut.specs.Input.{onSample, onSamples, onSources, inNumbers}
 use Rattle.lut.specs.Telling.{HitAlike, TellsApart, Says}
 
 -- descriptions that are asked with a sample hit alike on every input if they do on every sample
@@ -25,6 +25,13 @@ alike-on-pairs f g h Nothing i = refl
 alike-on-pairs f g h (Sample s) i = refl
 alike-on-pairs f g h (Samples earlier later) i = h earlier later (i .0) (i .1)
 alike-on-pairs f g h (Sources s) i = refl
+
+-- and those that are asked with sixteen sources
+pub alike-on-sources : (f g : ℕ → Bool) → ((s : ℕ) → s < 2 ^ 16 → f s ≡ g s) → HitAlike (onSources f) (onSources g)
+alike-on-sources f g h Nothing i = refl
+alike-on-sources f g h (Sample s) i = refl
+alike-on-sources f g h (Samples earlier later) i = refl
+alike-on-sources f g h (Sources s) i = h s i
 
 -- the answer is Alike exactly where no input tells the two apart
 pub alike-iff : {A : Type 0} (f g : Input → A) (t : Telling) → Says f g t → (t ≡ Alike) ↔ HitAlike f g
@@ -51,3 +58,7 @@ module _ (f g : Input → Bool) where
     λ t. record { fits = t .fits; tells = λ e. t .tells (ap oneIf e) },
     λ t. record { fits = t .fits; tells = λ e. t .tells (one-inj (f i) (g i) e) },
   )
+
+  pub says-in-numbers : (t : Telling) → Says f g t → Says (inNumbers f) (inNumbers g) t
+  says-in-numbers Alike h = alike-in-numbers .1 h
+  says-in-numbers (Apart i) h = apart-in-numbers i .1 h

@@ -21,6 +21,11 @@ pub one-lt : (b : Bool) → oneIf b < 2
 one-lt true = lit< tt
 one-lt false = lit< tt
 
+pub digit-on : (d : ℕ) → d < 2 → d ≡ oneIf (eqb d 1)
+digit-on zero h = refl
+digit-on (suc zero) h = refl
+digit-on (suc (suc d)) h = absurd (omega arith)
+
 -- a table of n addresses has n bits
 bit-fits : (b : Bool) (x p : ℕ) → x < p → x + oneIf b * p < p + p
 bit-fits true x p h = omega arith

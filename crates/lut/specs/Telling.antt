@@ -22,14 +22,14 @@ abbrev pub Says : {A : Type 0} (f g : Input → A) → Telling → Type 0
 Says f g Alike = HitAlike f g
 Says f g (Apart i) = TellsApart f g i
 
--- no lesser sample tells them apart; asked of one sample only [N9, D3.7]
+-- no lesser sample, and no lesser pattern of sources, tells them apart; of two samples nothing is asked [N9, D3.7]
 abbrev pub NoneLess : {A : Type 0} (f g : Input → A) → Input → Type 0
 NoneLess f g Nothing = Unit
 NoneLess f g (Sample s) = (r : ℕ) → r < s → f (Sample r) ≡ g (Sample r)
 NoneLess f g (Samples earlier later) = Unit
-NoneLess f g (Sources s) = Unit
+NoneLess f g (Sources s) = (r : ℕ) → r < s → f (Sources r) ≡ g (Sources r)
 
--- what an answer that shows the least sample says besides [N9, D3.7]
+-- what an answer that shows the least one says besides [N9, D3.7]
 abbrev pub Least : {A : Type 0} (f g : Input → A) → Telling → Type 0
 Least f g Alike = Unit
 Least f g (Apart i) = NoneLess f g i

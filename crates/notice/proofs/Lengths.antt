@@ -1,5 +1,5 @@
--- How long a notice can be: a line on a changed description has at most 22 bytes for a term or a range, 31 for an edge
--- and 13 for a sum or a state; a line NAME before it has 13. Assumes nothing.
+-- How long a notice can be: a line on a changed description has at most 22 bytes for a term or a range, 31 for an edge,
+-- 18 for a sum and 13 for a state; a line NAME before it has 13. Assumes nothing.
 use Prim.Native.Nat.{ℕ, zero, suc, _+_, _*_, _≤_, min, max}
 use mathlib.Core.Bool.{Bool, true, false, cond}
 use mathlib.Core.List.{List, [], _∷_}
@@ -7,15 +7,14 @@ use mathlib.Core.Path.{_≡_, refl}
 use native.Mathlib.Nat.{suc-mul}
 use native.Mathlib.Omega.{arith}
 use lib.Bits.{bitAnd, bitXor}
-use lib.Dec.{eqb}
+use lib.Dec.{eqb, ltb}
 use lib.ListN.{length, getD, length-append}
 use Rattle.lines.specs.Gather.{scattered}
 use Rattle.compare.specs.Same.{same}
 use Rattle.lut.specs.declared.Input.the-variants.{Nothing, Sample, Samples, Sources}
 use Rattle.lut.specs.declared.Telling.{Telling}
 use Rattle.lut.specs.declared.Telling.the-variants.{Alike, Apart}
-use Rattle.kinds.specs.Change.{told}
-use Rattle.kinds.specs.Table.{changeOf, sections, mostOf, kindOf}
+use Rattle.kinds.specs.Table.{tellingOf, sections, mostOf, kindOf}
 use Rattle.records.specs.Sections.{labelOf, descriptionOf}
 use Rattle.records.specs.Records.{find}
 use Rattle.sheet.specs.Parsed.{parse}
@@ -27,6 +26,10 @@ use Rattle.range_telling.specs.Description as range-telling
 use Rattle.range_telling.specs.Telling.{firstDiffer, tellMasks, tellBounds, tellReduced, rangeTelling}
 use Rattle.range_telling.specs.Reduce.{reduceOf}
 use Rattle.edge.specs.Description as edge
+use Rattle.sum.specs.Description as sum
+use Rattle.sum.specs.Words.{wordsOf}
+use Rattle.sum_telling.specs.Description as sum-telling
+use Rattle.sum_telling.specs.Telling.{patterns, leastPattern, answerOf, sumTelling}
 use Rattle.notice.specs.declared.Finding.the-variants.{New, Gone, Name, Changed}
 use Rattle.notice.specs.declared.Line.{Line}
 use Rattle.notice.specs.Text.{changeText, findingText, renderAll}
@@ -39,7 +42,7 @@ use Rattle.notice.proofs.Slots.{shared-length}
 
 -- the line has at most n bytes, eight of them before the finding
 abbrev Within : ℕ → Telling → Type 0
-Within n t = 8 + length (changeText (told t)) ≤ n
+Within n t = 8 + length (changeText t) ≤ n
 
 -- of one sample, or none
 picks : (a b : Bool) (x y : ℕ) → Within 22 (cond a (cond b Alike (Apart (Sample x))) (Apart (Sample y)))
@@ -75,16 +78,24 @@ any-within (Apart (Sample s)) = omega arith
 any-within (Apart (Samples e l)) = omega arith
 any-within (Apart (Sources s)) = omega arith
 
+-- of sixteen sources, or none
+sum-within : (least : ℕ) → Within 18 (answerOf least)
+sum-within least = go (ltb least patterns)
+  where
+    go : (b : Bool) → Within 18 (cond b (Apart (Sources least)) Alike)
+    go true = omega arith
+    go false = omega arith
+
 -- by the section's number
 abbrev changeMost : ℕ → ℕ
-changeMost k = getD (22 ∷ 22 ∷ 31 ∷ 13 ∷ 13 ∷ []) k 13
+changeMost k = getD (22 ∷ 22 ∷ 31 ∷ 18 ∷ 13 ∷ []) k 13
 
-change-most : (k : ℕ) (d e : List ℕ) → 8 + length (changeText (changeOf k d e)) ≤ changeMost k
-unfolding changeOf kindOf term.telling range-telling.telling rangeTelling edge.telling
+change-most : (k : ℕ) (d e : List ℕ) → 8 + length (changeText (tellingOf k d e)) ≤ changeMost k
+unfolding tellingOf kindOf term.telling range-telling.telling rangeTelling edge.telling sum-telling.telling sumTelling
 change-most zero d e = term-within (term.fromBytes d .target) (term.fromBytes d .mask) (term.fromBytes e .target) (term.fromBytes e .mask)
 change-most (suc zero) d e = range-within (reduceOf (range.fromBytes d)) (reduceOf (range.fromBytes e))
 change-most (suc (suc zero)) d e = any-within (edge.telling d e)
-change-most (suc (suc (suc zero))) d e = omega arith
+change-most (suc (suc (suc zero))) d e = sum-within (leastPattern (wordsOf (sum.fromBytes d)) (wordsOf (sum.fromBytes e)))
 change-most (suc (suc (suc (suc zero)))) d e = omega arith
 change-most (suc (suc (suc (suc (suc k))))) d e = omega arith
 
@@ -111,7 +122,7 @@ shared-most k slot old new =
       arith,
       shared-length k slot old new,
       unless-length (labelOf old) (labelOf new) (line k slot Name) 13 (omega arith),
-      unless-length d e (line k slot (Changed (changeOf k d e))) (changeMost k) (change-most k d e),
+      unless-length d e (line k slot (Changed (tellingOf k d e))) (changeMost k) (change-most k d e),
     )
 
 slot-length : (k slot : ℕ) (old new : List ℕ) → length (renderAll (slotLines k slot old new)) ≤ slotMost k

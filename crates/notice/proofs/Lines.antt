@@ -6,8 +6,8 @@ use native.Mathlib.Omega.{arith}
 use lib.ListN.{length, take, drop, length-append}
 use lib.Seq.{take-all}
 use Rattle.lut.specs.declared.Input.{Input}
+use Rattle.lut.specs.declared.Telling.the-variants.{Apart}
 use Rattle.kinds.specs.Table.{nameOf}
-use Rattle.kinds.specs.declared.Change.the-variants.{Altr}
 use Rattle.kinds.proofs.Rows.{always}
 use Rattle.notice.specs.declared.Line.{Line}
 use Rattle.notice.specs.Text.{hex, slotText, inputText, changeText, findingText, render, renderAll}
@@ -39,7 +39,7 @@ hex-last n x h =
     let d = hex-drop (8 - n) 8 n x (omega arith) in
     ap (take (8 - (8 - n))) d ∙ take-all (8 - (8 - n)) (hex n x) (omega (arith, hex-length n x))
 
-pub altr-length : (i : Input) → length (changeText (Altr i)) ≡ 5 + length (inputText i)
+pub altr-length : (i : Input) → length (changeText (Apart i)) ≡ 5 + length (inputText i)
 altr-length i = rw (length-append ((65 ∷ 76 ∷ 84 ∷ 82 ∷ []) ++ inputText i) (10 ∷ [])) (omega arith)
 
 pub name-length : (k : ℕ) → length (nameOf k) ≡ 4

@@ -9,7 +9,7 @@ use native.Mathlib.Decide.{ℕ-discrete}
 use lib.ListN.{getD}
 use Rattle.compare.specs.Same.{same}
 use Rattle.compare.proofs.Compare.{same-refl, same-false}
-use Rattle.kinds.specs.Table.{changeOf}
+use Rattle.kinds.specs.Table.{tellingOf}
 use Rattle.records.specs.Sections.{sections, mostOf, labelOf, descriptionOf}
 use Rattle.records.specs.Records.{find}
 use Rattle.sheet.specs.Parsed.{parse, recordWith}
@@ -127,7 +127,7 @@ slot-from k s (x ∷ o) [] f i = subst (Gives k (x ∷ o) []) (sym (same-finding
 slot-from k s (x ∷ o) (y ∷ n) f i =
     let old = x ∷ o in
     let new = y ∷ n in
-    let change = Changed (changeOf k (descriptionOf old) (descriptionOf new)) in
+    let change = Changed (tellingOf k (descriptionOf old) (descriptionOf new)) in
     ⊎-elim
     (λ m. let h = maybe-in (same (labelOf old) (labelOf new)) (line k s f) (line k s Name) m in
     subst (Gives k old new) (sym (same-finding k s f Name (h .1))) (cons≢nil, cons≢nil, differ (labelOf old) (labelOf new) (h .0)))

@@ -4,7 +4,7 @@ use mathlib.Core.Path.{_≡_, refl, ap, _∙_}
 use mathlib.Core.List.{List, [], _∷_, _++_}
 use native.Mathlib.Omega.{arith}
 use lib.ListN.{length, length-append}
-use Rattle.kinds.specs.Table.{changeOf}
+use Rattle.kinds.specs.Table.{tellingOf}
 use Rattle.records.specs.Sections.{labelOf, descriptionOf}
 use Rattle.notice.specs.declared.Finding.the-variants.{New, Gone, Name, Changed}
 use Rattle.notice.specs.Findings.{line, unlessSame, sharedLines, slotLines}
@@ -42,7 +42,7 @@ module _ (k slot : ℕ) where
 
   abbrev pub changedText : (old new : List ℕ) → List ℕ
   changedText old new =
-      renderAll (unlessSame (descriptionOf old) (descriptionOf new) (line k slot (Changed (changeOf k (descriptionOf old) (descriptionOf new)))))
+      renderAll (unlessSame (descriptionOf old) (descriptionOf new) (line k slot (Changed (tellingOf k (descriptionOf old) (descriptionOf new)))))
 
   pub shared-text : (old new : List ℕ) → renderAll (sharedLines k slot old new) ≡ nameText old new ++ changedText old new
   unfolding sharedLines

@@ -3,7 +3,7 @@ use Prim.Native.Nat.{ℕ}
 use mathlib.Core.Bool.{cond}
 use mathlib.Core.List.{List, [], _∷_, _++_}
 use Rattle.compare.specs.Same.{same}
-use Rattle.kinds.specs.Table.{changeOf}
+use Rattle.kinds.specs.Table.{tellingOf}
 use Rattle.records.specs.Sections.{labelOf, descriptionOf}
 use Rattle.notice.specs.declared.Finding.{Finding}
 use Rattle.notice.specs.declared.Finding.the-variants.{New, Gone, Name, Changed}
@@ -21,7 +21,7 @@ unlessSame old new l = cond (same old new) [] (l ∷ [])
 unfoldable pub sharedLines : (k slot : ℕ) (old new : List ℕ) → List Line
 sharedLines k slot old new =
     unlessSame (labelOf old) (labelOf new) (line k slot Name)
-    ++ unlessSame (descriptionOf old) (descriptionOf new) (line k slot (Changed (changeOf k (descriptionOf old) (descriptionOf new))))
+    ++ unlessSame (descriptionOf old) (descriptionOf new) (line k slot (Changed (tellingOf k (descriptionOf old) (descriptionOf new))))
 
 -- the lines of a slot from its two records, no bytes where a sheet has none: NEW, GONE or a shared slot's [N4, N7, B7]
 unfoldable pub slotLines : (k slot : ℕ) (old new : List ℕ) → List Line

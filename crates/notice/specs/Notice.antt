@@ -39,7 +39,7 @@ noticeText old new = renderAll (noticeLines old new)
 
 -- the most of them that there can be; theorem at-most [N11]
 abbrev pub longestNotice : ℕ
-longestNotice = 2172
+longestNotice = 2412
 
 -- the old sheet's refusal, else the new sheet's, else whether there is room: 12 is of neither [O4, O7, A3, A4, F12]
 abbrev pub answerOf : (old new : Verdict) (text : List ℕ) (room : ℕ) → Noticed

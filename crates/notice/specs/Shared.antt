@@ -2,7 +2,7 @@
 use mathlib.Core.List.{List, []}
 use mathlib.Core.Path.{_≡_}
 use Prim.Native.Nat.{ℕ}
-use Rattle.kinds.specs.Table.{changeOf}
+use Rattle.kinds.specs.Table.{tellingOf}
 use Rattle.records.specs.Sections.{labelOf, descriptionOf}
 use Rattle.sheet.specs.Parsed.{recordWith}
 use Rattle.notice.specs.declared.Finding.{Finding}
@@ -25,5 +25,5 @@ abbrev pub Gives : (k : ℕ) (old new : List ℕ) → Finding → Type 0
 Gives k old new New = (old ≡ []) × (new ≡ [] → ⊥)
 Gives k old new Gone = (old ≡ [] → ⊥) × (new ≡ [])
 Gives k old new Name = (old ≡ [] → ⊥) × (new ≡ [] → ⊥) × (labelOf old ≡ labelOf new → ⊥)
-Gives k old new (Changed change) =
-    (old ≡ [] → ⊥) × (new ≡ [] → ⊥) × (descriptionOf old ≡ descriptionOf new → ⊥) × (change ≡ changeOf k (descriptionOf old) (descriptionOf new))
+Gives k old new (Changed telling) =
+    (old ≡ [] → ⊥) × (new ≡ [] → ⊥) × (descriptionOf old ≡ descriptionOf new → ⊥) × (telling ≡ tellingOf k (descriptionOf old) (descriptionOf new))

@@ -6,18 +6,18 @@ mod text;
 
 ghost use lib.ListN.{length};
 ghost use Rattle.notice.specs.Notice.{NoticeGiven, NoticeNumbered};
-use kinds::Change;
+use lut::Telling;
 
 // The most bytes that a notice has (proofs/Lengths, at-most): the room in which it is built before its length is known.
-pub const LONGEST: usize = 2172;
+pub const LONGEST: usize = 2412;
 
 // What a line says of a slot.
 pub enum Finding {
     New,
     Gone,
     Name,
-    // The descriptions differ.
-    Changed(Change),
+    // The descriptions differ: what tells them apart, if anything does.
+    Changed(Telling),
 }
 
 // A line of the notice. A section is known by its number.

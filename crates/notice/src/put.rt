@@ -4,7 +4,7 @@ ghost use Prim.Native.Nat.{_+_, _≤_};
 ghost use lib.ListN.{length};
 ghost use Rattle.buffer.specs.Room.{Wrote};
 ghost use Rattle.buffer.specs.declared.Verdict.the-variants.{Accepted};
-ghost use Rattle.kinds.specs.Table.{changeOf};
+ghost use Rattle.kinds.specs.Table.{tellingOf};
 ghost use Rattle.records.specs.Sections.{mostOf};
 ghost use Rattle.sheet.specs.Parts.{judgedOf};
 ghost use Rattle.sheet.specs.Reading.{verdict};
@@ -34,8 +34,8 @@ fn put_unless_same(out: &mut [u8], at: usize, old: &[u8], new: &[u8], line: Line
 
 // The line of a description, unless two have the same bytes. What changed is asked only where they differ.
 fn put_changed(out: &mut [u8], at: usize, section: usize, slot: u8, old: &[u8], new: &[u8]) -> usize
-    requires { ⌜ at + length (renderAll (unlessSame (now old) (now new) (line section slot (Changed (changeOf section (now old) (now new)))))) ≤ length (now out) ⌝ }
-    ensures { λ r. ⌜ Wrote at (renderAll (unlessSame (now (old .entry)) (now (new .entry)) (line section slot (Changed (changeOf section (now (old .entry)) (now (new .entry))))))) (now (out .entry)) (now (out .exit)) r ⌝ }
+    requires { ⌜ at + length (renderAll (unlessSame (now old) (now new) (line section slot (Changed (tellingOf section (now old) (now new)))))) ≤ length (now out) ⌝ }
+    ensures { λ r. ⌜ Wrote at (renderAll (unlessSame (now (old .entry)) (now (new .entry)) (line section slot (Changed (tellingOf section (now (old .entry)) (now (new .entry))))))) (now (out .entry)) (now (out .exit)) r ⌝ }
 {
     if compare::same_bytes(old, new) {
         return at;
@@ -43,7 +43,7 @@ fn put_changed(out: &mut [u8], at: usize, section: usize, slot: u8, old: &[u8], 
     let line = Line {
         section,
         slot,
-        finding: Finding::Changed(kinds::change_of(section, old, new)),
+        finding: Finding::Changed(kinds::telling_of(section, old, new)),
     };
     put_line(out, at, line)
 }

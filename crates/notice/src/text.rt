@@ -6,8 +6,8 @@ ghost use Rattle.buffer.specs.Room.{Wrote};
 ghost use Rattle.notice.specs.Text.{hexDigit, hex, numberText, slotText, inputText, changeText, findingText, render};
 use crate::Finding;
 use crate::Line;
-use kinds::Change;
 use lut::Input;
+use lut::Telling;
 use records::slot_digits;
 
 // The hex digits of a sample, which has 32 lines, and of sixteen sources.
@@ -86,14 +86,13 @@ fn put_input(out: &mut [u8], at: usize, input: Input) -> usize
 }
 
 // What is said of a changed description, and the line's end.
-fn put_change(out: &mut [u8], at: usize, change: Change) -> usize
-    requires { ⌜ at + length (changeText change) ≤ length (now out) ⌝ }
-    ensures { λ r. ⌜ Wrote at (changeText change) (now (out .entry)) (now (out .exit)) r ⌝ }
+fn put_change(out: &mut [u8], at: usize, telling: Telling) -> usize
+    requires { ⌜ at + length (changeText telling) ≤ length (now out) ⌝ }
+    ensures { λ r. ⌜ Wrote at (changeText telling) (now (out .entry)) (now (out .exit)) r ⌝ }
 {
-    match change {
-        Change::Oper => put(out, at, b"OPER\n"),
-        Change::Word => put(out, at, b"WORD\n"),
-        Change::Altr(input) => {
+    match telling {
+        Telling::Alike => put(out, at, b"WORD\n"),
+        Telling::Apart(input) => {
             let at1 = put(out, at, b"ALTR");
             let at2 = put_input(out, at1, input);
             put(out, at2, b"\n")
@@ -110,7 +109,7 @@ fn put_finding(out: &mut [u8], at: usize, finding: Finding) -> usize
         Finding::New => put(out, at, b"NEW\n"),
         Finding::Gone => put(out, at, b"GONE\n"),
         Finding::Name => put(out, at, b"NAME\n"),
-        Finding::Changed(change) => put_change(out, at, change),
+        Finding::Changed(telling) => put_change(out, at, telling),
     }
 }
 

@@ -4,5 +4,6 @@
 mod labels;
 mod line;
 mod page;
+mod sources;
 
 pub use page::report;

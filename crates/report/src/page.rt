@@ -6,6 +6,7 @@ use crate::line::is_finding;
 use crate::line::line_length;
 use crate::line::section_of;
 use crate::line::slot_of;
+use crate::sources::put_sources;
 use text::put_number;
 
 // Longer than any line that is built.
@@ -41,11 +42,10 @@ fn write_counts(notice: &[u8], fd: i32) -> bool {
     );
     let b = put_number(&mut line, a, b", ALTR ", count_lines(notice, b"ALTR"));
     let c = put_number(&mut line, b, b", WORD ", count_lines(notice, b"WORD"));
-    let d = put_number(&mut line, c, b", OPER ", count_lines(notice, b"OPER"));
-    let e = put_number(&mut line, d, b", NEW ", count_lines(notice, b"NEW\n"));
-    let f = put_number(&mut line, e, b", GONE ", count_lines(notice, b"GONE"));
-    let g = buffer::put_at(&mut line, f, b"\n\n");
-    io::write_all(fd, peek::prefix(&line, g))
+    let d = put_number(&mut line, c, b", NEW ", count_lines(notice, b"NEW\n"));
+    let e = put_number(&mut line, d, b", GONE ", count_lines(notice, b"GONE"));
+    let f = buffer::put_at(&mut line, e, b"\n\n");
+    io::write_all(fd, peek::prefix(&line, f))
 }
 
 fn write_lines(notice: &[u8], old: &[u8], new: &[u8], fd: i32) -> bool {
@@ -83,14 +83,12 @@ fn write_saying(line: &[u8], fd: i32) -> bool {
     if is_finding(line, b"NAME") {
         io::write_all(fd, b"    The label is another one.\n")
     } else if is_finding(line, b"ALTR") {
-        write_altered(is_bare(line), fd)
+        write_altered(line, fd)
     } else if is_finding(line, b"WORD") {
         io::write_all(
             fd,
             b"    Written otherwise, but no input tells the two apart: they hit alike.\n",
         )
-    } else if is_finding(line, b"OPER") {
-        io::write_all(fd, b"    The sum's operations are others.\n")
     } else if is_finding(line, b"GONE") {
         io::write_all(fd, b"    The slot is in the old sheet only.\n")
     } else {
@@ -99,18 +97,32 @@ fn write_saying(line: &[u8], fd: i32) -> bool {
 }
 
 // Only of a state no input is shown.
-fn write_altered(is_state: bool, fd: i32) -> bool {
-    if is_state {
-        io::write_all(
+fn write_altered(line: &[u8], fd: i32) -> bool {
+    if is_bare(line) {
+        return io::write_all(
             fd,
             b"    Altered: the state's number, else state or flags are others.\n",
-        )
-    } else {
-        io::write_all(
-            fd,
-            b"    Altered: on the input shown, in hex, one of the two hits and the other does not.\n",
-        )
+        );
     }
+    if !io::write_all(
+        fd,
+        b"    Altered: on the input shown, in hex, one of the two hits and the other does not.\n",
+    ) {
+        return false;
+    }
+    if section_of(line) == kinds::SUMS {
+        return write_sources(line, fd);
+    }
+    true
+}
+
+// Of a sum the input is a pattern of its sources: those that hit in it are named.
+fn write_sources(line: &[u8], fd: i32) -> bool {
+    let mut named = [0u8; LINE];
+    let a = buffer::put_at(&mut named, 0, b"    sources that hit in it:");
+    let b = put_sources(&mut named, a, line);
+    let c = buffer::put_at(&mut named, b, b"\n");
+    io::write_all(fd, peek::prefix(&named, c))
 }
 
 fn write_ending(fd: i32) -> bool {
@@ -126,6 +138,6 @@ fn write_ending(fd: i32) -> bool {
 fn write_words(fd: i32) -> bool {
     io::write_all(
         fd,
-        b"\nWhat the words mean (TERM terms, RANG ranges, EDGE edges, SUMS sums, STAT states):\n  NAME  the label differs; what is caught is not altered by that\n  ALTR  what is caught differs; the input that follows tells the two apart\n        (one sample in hex; for an edge the earlier and the later sample);\n        for a state, where no input follows: its number, else state or flags differ\n  WORD  the description differs, but no input tells the two apart\n  OPER  a sum's operations differ\n  NEW   a slot that only the new sheet has\n  GONE  a slot that only the old sheet has\nA slot without a line is the same in both sheets, its label too.\n",
+        b"\nWhat the words mean (TERM terms, RANG ranges, EDGE edges, SUMS sums, STAT states):\n  NAME  the label differs; what is caught is not altered by that\n  ALTR  what is caught differs; the input that follows tells the two apart\n        (one sample in hex; for an edge the earlier and the later sample;\n        for a sum its sixteen sources, of which every pattern counts);\n        for a state, where no input follows: its number, else state or flags differ\n  WORD  the description differs, but no input tells the two apart\n  NEW   a slot that only the new sheet has\n  GONE  a slot that only the old sheet has\nA slot without a line is the same in both sheets, its label too.\n",
     )
 }

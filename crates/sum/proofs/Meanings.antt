@@ -11,18 +11,12 @@ use Rattle.lines.specs.Line.{line}
 use Rattle.lines.proofs.Computed.{digits, everyWithin, Within, every-within}
 use Rattle.lut.specs.Table.{answerAt, oneIf}
 use Rattle.lut.proofs.Halves.{low-half}
-use Rattle.lut.proofs.Tables.{one-is, one-lt}
+use Rattle.lut.proofs.Tables.{one-is, one-lt, digit-on}
 use Rattle.sum.specs.Operation.{pairOps, midOps, finalOps, opWord, codesAccepted}
 use Rattle.sum.specs.Meaning.{twoMeans, midMeans, isOn, groupMeans, firstHalf, secondHalf, sumMeans}
 use Rattle.sum.specs.Words.{joined, wordsOf}
 use Rattle.sum.specs.Model.{firstPairs, lastPairs, pairAt, inputsOf, sumHit}
 use Rattle.sum.proofs.Tables.{pairs, mids, finals, op-word-lt, joined-high, joined-low, code-at}
-
--- a line or an answer as a truth value and back
-digit-on : (d : ℕ) → d < 2 → d ≡ oneIf (eqb d 1)
-digit-on zero h = refl
-digit-on (suc zero) h = refl
-digit-on (suc (suc d)) h = absurd (omega arith)
 
 -- the word of a code (the first number) answers, at the address of four inputs, what the operation means for them
 module _ (ops : List ℕ) (means : ℕ → Bool → Bool → Bool → Bool → Bool) where

@@ -36,14 +36,17 @@ inputsOf pairs v w s =
     + 4 * pairAt (low w) s (getD pairs 4 0) (getD pairs 5 0)
     + 8 * pairAt (high w) s (getD pairs 6 0) (getD pairs 7 0)
 
+-- what mid1 answers, over the pairs ab, c, d and e [M8, W14]
+abbrev pub firstMid : List ℕ → (sources : ℕ) → ℕ
+firstMid w s = answerAt (low (getD w 1 0)) (inputsOf firstPairs (getD w 5 0) (getD w 4 0) s)
+
+-- what mid2 answers, over the pairs fg, h, i and j [M8, W14]
+abbrev pub lastMid : List ℕ → (sources : ℕ) → ℕ
+lastMid w s = answerAt (high (getD w 1 0)) (inputsOf lastPairs (getD w 3 0) (getD w 2 0) s)
+
 -- the final table, asked with what the two mids answer, answers 1 [M8]
 unfoldable pub sumHit : List ℕ → (sources : ℕ) → Bool
-sumHit w s =
-    eqb
-    (answerAt (low (getD w 0 0))
-    (answerAt (low (getD w 1 0)) (inputsOf firstPairs (getD w 5 0) (getD w 4 0) s)
-    + 2 * answerAt (high (getD w 1 0)) (inputsOf lastPairs (getD w 3 0) (getD w 2 0) s)))
-    1
+sumHit w s = eqb (answerAt (low (getD w 0 0)) (firstMid w s + 2 * lastMid w s)) 1
 
 -- what the model answers for any lent words: six are needed [M1, M8]
 abbrev pub runSum : List ℕ → (sources : ℕ) → Answer

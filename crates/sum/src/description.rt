@@ -8,7 +8,8 @@ const NO_FAULT: u8 = 0;
 
 const BAD_OPERATION: u8 = 10;
 
-fn from_bytes(bytes: &[u8]) -> [u8; 11]
+// The operations of a description; 0 for bytes that it lacks.
+pub fn from_bytes(bytes: &[u8]) -> [u8; 11]
     ensures { λ r. ⌜ r ≡ description.fromBytes (now (bytes .entry)) ⌝ }
 {
     if 11 <= bytes.len() {

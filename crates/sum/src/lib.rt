@@ -11,9 +11,11 @@ mod words;
 pub use address::sum_address;
 pub use back::read_sum;
 pub use description::fault;
+pub use description::from_bytes;
 pub use description::put_back;
 pub use description::put_words;
 pub use model::run_sum;
+pub use words::words_of;
 
 // The operation codes of chain words; where none write the words, ok is false (refusal 16) and the codes are 0.
 pub struct ReadSum {

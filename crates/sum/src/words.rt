@@ -15,7 +15,7 @@ fn joined_word(table: &[u16], high: u8, low: u8) -> u32
 
 // The six words of eleven operations; which operation stands in which half is a table of the rules [W14]. Each table is
 // made once and lent: a constant array is made anew wherever it is named.
-pub(crate) fn words_of(b: [u8; 11]) -> [u32; 6]
+pub fn words_of(b: [u8; 11]) -> [u32; 6]
     ensures { λ r. ⌜ r ≡ wordsOf b ⌝ }
 {
     let last = FINAL;

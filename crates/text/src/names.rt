@@ -90,6 +90,28 @@ pub fn stage_name(i: usize) -> [u8; 8] {
     }
 }
 
+// Source i of a sum: a slot, or one of the two timers.
+pub fn source_name(i: usize) -> [u8; 8] {
+    match i {
+        0 => *b"TERM 00 ",
+        1 => *b"TERM 01 ",
+        2 => *b"TERM 02 ",
+        3 => *b"TERM 03 ",
+        4 => *b"TERM 04 ",
+        5 => *b"TERM 05 ",
+        6 => *b"TERM 06 ",
+        7 => *b"TERM 07 ",
+        8 => *b"TERM 08 ",
+        9 => *b"TERM 09 ",
+        10 => *b"RANG 00 ",
+        11 => *b"RANG 01 ",
+        12 => *b"EDGE 00 ",
+        13 => *b"EDGE 01 ",
+        14 => *b"timer 1 ",
+        _ => *b"timer 2 ",
+    }
+}
+
 pub fn operation_name(code: u8) -> [u8; 8] {
     match code {
         0 => *b"NOP     ",

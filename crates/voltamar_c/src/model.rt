@@ -1,4 +1,4 @@
-// Gathering, the plain rules of a hit, and the model over lent chain words.
+// Gathering, the plain rules of a hit, the model over lent chain words, and what tells two sums apart.
 ghost use mathlib.Core.Path.{_≡_};
 ghost use Rattle.lines.specs.Gather.{gathered};
 ghost use Rattle.lut.specs.Answer.{answerNumber, answerHit, answerPlace};
@@ -9,6 +9,7 @@ ghost use Rattle.range.specs.Model.{runRange};
 ghost use Rattle.edge.specs.Rule.{edgeHit};
 ghost use Rattle.edge.specs.Model.{runEdge};
 ghost use Rattle.sum.specs.Model.{runSum};
+ghost use Rattle.sum_telling.specs.Numbers.{sumTold, ToldMeans};
 use answers::hand_answer;
 
 // The sample's masked lines, packed into a number.
@@ -78,6 +79,18 @@ pub extern "C" fn voltamar_run_sum(
     ensures { λ _. ⌜ now (place .exit) ≡ answerPlace (runSum (now (words .entry)) sources) ⌝ }
 {
     hand_answer(sum::run_sum(words, sources), hit, place)
+}
+
+// What tells two sums apart, each given by its eleven operation bytes.
+#[no_mangle]
+pub extern "C" fn voltamar_sum_telling(old: &[u8], new: &[u8], sources: &mut u16) -> u8
+    ensures { λ r. ⌜ r ≡ sumTold (now (old .entry)) (now (new .entry)) .number ⌝ }
+    ensures { λ _. ⌜ now (sources .exit) ≡ sumTold (now (old .entry)) (now (new .entry)) .sources ⌝ }
+    ensures meaning { λ r. ⌜ ToldMeans (now (old .entry)) (now (new .entry)) (record { number = r; sources = now (sources .exit) }) ⌝ }
+{
+    let told = sum_telling::told_of(old, new);
+    *sources = told.sources;
+    told.number
 }
 
 // The plain rule of a term.

@@ -100,7 +100,8 @@ fn lift() -> Setup {
     s
 }
 
-/// The lift's set-up as revised: a line of the notice for each thing that can be said whatever sample is chosen.
+/// The lift's set-up as revised: a line of the notice for each thing that can be said whatever sample is chosen, and
+/// that of a sum, where the library too shows the least pattern.
 fn revised() -> Setup {
     let mut s = lift();
     s.sections[0].clear();

@@ -262,7 +262,7 @@ pub fn description(random: &mut Random, section: usize) -> Vec<u8> {
         0 => numbers(&[if random.one_in(2) { random.u32() } else { random.mask() }, random.mask()]),
         1 => numbers(&range(random)),
         2 => numbers(&edge(random)),
-        3 => (0..11).map(|_| random.below(10) as u8).collect(),
+        3 => sum(random).to_vec(),
         _ => state(random),
     }
 }
@@ -295,6 +295,65 @@ pub fn range(random: &mut Random) -> [u32; 3] {
 pub fn edge(random: &mut Random) -> [u32; 3] {
     let neither = random.mask();
     [random.mask() & !neither, random.mask() & !neither, neither]
+}
+
+/// The operations of an accepted sum.
+pub fn sum(random: &mut Random) -> [u8; 11] {
+    std::array::from_fn(|_| random.below(10) as u8)
+}
+
+/// The sum with another operation at one place.
+pub fn near_sum(random: &mut Random, mut sum: [u8; 11]) -> [u8; 11] {
+    let code = &mut sum[random.below(11)];
+    *code = (*code + 1 + random.below(9) as u8) % 10;
+    sum
+}
+
+/// In how many ways two sums are made that match alike.
+pub const ALIKE_WAYS: usize = 5;
+
+/// Two sums of different operations, and so of different words, that match alike.
+pub fn alike_sums(random: &mut Random, way: usize) -> ([u8; 11], [u8; 11]) {
+    let different = std::iter::repeat_with(|| alike_pair(random, way)).find(|(old, new)| old != new);
+    different.expect("most of them are")
+}
+
+/// The same, but that now and then the operations are the same.
+fn alike_pair(random: &mut Random, way: usize) -> ([u8; 11], [u8; 11]) {
+    const NOP_OR_ANY: [u8; 2] = [0, 1];
+    const OPPOSITE: u8 = 1; // a code from 0 to 7 with this bit turned over
+    let (mut old, mut new) = (sum(random), sum(random));
+    let kept: &[usize] = match way {
+        // the final operation asks for no mid
+        0 => {
+            old[10] = random.pick(&NOP_OR_ANY);
+            &[10]
+        }
+        // the mids ask for no pair
+        1 => {
+            (old[8], old[9]) = (random.pick(&NOP_OR_ANY), random.pick(&NOP_OR_ANY));
+            &[8, 9, 10]
+        }
+        // the final operation is A and asks for the first half alone
+        2 => {
+            old[10] = 8;
+            &[0, 1, 2, 3, 8, 10]
+        }
+        // the mids are A and B: each asks for two of its pairs
+        3 => {
+            (old[8], old[9]) = (8, 9);
+            &[0, 1, 6, 7, 8, 9, 10]
+        }
+        // both mids become their opposites, and the final operation is the one that makes up for it
+        _ => {
+            (old[8], old[9]) = (old[8] % 8, old[9] % 8);
+            (new[8], new[9]) = (old[8] ^ OPPOSITE, old[9] ^ OPPOSITE);
+            (old[10], new[10]) = random.pick(&[(2, 5), (3, 4), (4, 3), (5, 2), (6, 6), (7, 7)]);
+            &[0, 1, 2, 3, 4, 5, 6, 7]
+        }
+    };
+    kept.iter().for_each(|&place| new[place] = old[place]);
+    (old, new)
 }
 
 /// An accepted state: often a number at a bound or of one bit, and no, one or every flag.

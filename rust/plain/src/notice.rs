@@ -1,7 +1,7 @@
 //! The alteration notice: one that the rules allow, and the test of any other.
 use crate::detect::scatter;
 use crate::sheet::{parts, three, two, DESCRIPTION, SECTIONS, SIZE};
-use crate::{edge_hit, range_hit, term_hit, Refusal, LONGEST_NOTICE};
+use crate::{edge_hit, range_hit, run_sum, sum_words, telling_sum, term_hit, Refusal, LONGEST_NOTICE};
 
 /// A refused notice: the sheet that the refusal is of, or the bytes needed (12 is of neither).
 #[derive(Clone, Copy, Debug, PartialEq, Eq)]
@@ -131,7 +131,6 @@ enum Verdict<'a> {
     Gone,
     Name,
     Word,
-    Oper,
     /// ALTR of a state, which shows no sample.
     Fields,
     Altr {
@@ -141,17 +140,32 @@ enum Verdict<'a> {
     },
 }
 
-/// A telling sample, or an earlier and a later one.
+/// A telling sample, an earlier and a later one, or a pattern of the sources.
 #[derive(Clone, Copy)]
 enum Telling {
     One(u32),
     Two(u32, u32),
+    Sources(u16),
+}
+
+/// How two sums are told apart: [`telling_sum`], or [`scan_telling_sum`](crate::scan_telling_sum), which runs them on
+/// every pattern and takes long where none tells.
+pub type TellSums = fn(&[u8; 11], &[u8; 11]) -> Option<u16>;
+
+/// The operations of a sum.
+fn operations(description: &[u8]) -> &[u8; 11] {
+    description.try_into().expect("a sum has eleven operations")
 }
 
 const KIND: [&[u8; 4]; SECTIONS] = [b"TERM", b"RANG", b"EDGE", b"SUMS", b"STAT"];
 
 /// Every line that two accepted sheets give, by section and then slot.
-fn each_line<'a>(old: &[&'a [u8]; SECTIONS], new: &[&'a [u8]; SECTIONS], mut say: impl FnMut(usize, u8, Verdict<'a>)) {
+fn each_line<'a>(
+    old: &[&'a [u8]; SECTIONS],
+    new: &[&'a [u8]; SECTIONS],
+    tell_sums: TellSums,
+    mut say: impl FnMut(usize, u8, Verdict<'a>),
+) {
     for section in 0..SECTIONS {
         let mut before = old[section].chunks_exact(SIZE[section]).peekable();
         let mut after = new[section].chunks_exact(SIZE[section]).peekable();
@@ -164,7 +178,7 @@ fn each_line<'a>(old: &[&'a [u8]; SECTIONS], new: &[&'a [u8]; SECTIONS], mut say
                         say(section, slot, Verdict::Name);
                     }
                     if old[DESCRIPTION..] != new[DESCRIPTION..] {
-                        say(section, slot, changed(section, &old[DESCRIPTION..], &new[DESCRIPTION..]));
+                        say(section, slot, changed(section, &old[DESCRIPTION..], &new[DESCRIPTION..], tell_sums));
                     }
                 }
                 (None, _) => say(section, slot, Verdict::New),
@@ -175,12 +189,12 @@ fn each_line<'a>(old: &[&'a [u8]; SECTIONS], new: &[&'a [u8]; SECTIONS], mut say
 }
 
 /// What is said of two descriptions that are not the same bytes.
-fn changed<'a>(section: usize, old: &'a [u8], new: &'a [u8]) -> Verdict<'a> {
+fn changed<'a>(section: usize, old: &'a [u8], new: &'a [u8], tell_sums: TellSums) -> Verdict<'a> {
     let told = match section {
         0 => least_telling_term(two(old), two(new)).map(Telling::One),
         1 => least_telling_range(three(old), three(new)).map(Telling::One),
         2 => telling_edge(three(old), three(new)).map(|(earlier, later)| Telling::Two(earlier, later)),
-        3 => return Verdict::Oper,
+        3 => tell_sums(operations(old), operations(new)).map(Telling::Sources),
         4 => return Verdict::Fields,
         _ => unreachable!("no such section"),
     };
@@ -204,10 +218,11 @@ impl Page {
         self.length += bytes.len();
     }
 
-    fn hex(&mut self, number: u32) {
-        let digit = |place: usize| b"0123456789ABCDEF"[(number >> (28 - 4 * place) & 15) as usize];
+    /// A space and so many digits.
+    fn hex<const DIGITS: usize>(&mut self, number: u32) {
+        let digit = |place: usize| b"0123456789ABCDEF"[(number >> (4 * (DIGITS - 1 - place)) & 15) as usize];
         self.put(b" ");
-        self.put(&std::array::from_fn::<u8, 8, _>(digit));
+        self.put(&std::array::from_fn::<u8, DIGITS, _>(digit));
     }
 
     fn head(&mut self, section: usize, slot: u8) {
@@ -222,16 +237,16 @@ impl Page {
             Verdict::Gone => self.put(b"GONE"),
             Verdict::Name => self.put(b"NAME"),
             Verdict::Word => self.put(b"WORD"),
-            Verdict::Oper => self.put(b"OPER"),
             Verdict::Fields => self.put(b"ALTR"),
             Verdict::Altr { shown, .. } => {
                 self.put(b"ALTR");
                 match *shown {
-                    Telling::One(sample) => self.hex(sample),
+                    Telling::One(sample) => self.hex::<8>(sample),
                     Telling::Two(earlier, later) => {
-                        self.hex(earlier);
-                        self.hex(later);
+                        self.hex::<8>(earlier);
+                        self.hex::<8>(later);
                     }
+                    Telling::Sources(sources) => self.hex::<4>(sources.into()),
                 }
             }
         }
@@ -244,7 +259,7 @@ pub fn notice(old: &[u8], new: &[u8], out: &mut [u8]) -> Result<usize, NoticeRef
     let old = parts(old).map_err(NoticeRefusal::Old)?;
     let new = parts(new).map_err(NoticeRefusal::New)?;
     let mut page = Page { bytes: [0; LONGEST_NOTICE], length: 0 };
-    each_line(&old, &new, |section, slot, verdict| page.line(section, slot, &verdict));
+    each_line(&old, &new, telling_sum, |section, slot, verdict| page.line(section, slot, &verdict));
     let Some(room) = out.get_mut(..page.length) else {
         return Err(NoticeRefusal::Short { needed: page.length });
     };
@@ -252,14 +267,14 @@ pub fn notice(old: &[u8], new: &[u8], out: &mut [u8]) -> Result<usize, NoticeRef
     Ok(page.length)
 }
 
-/// Whether a text is a notice of these two sheets by the rules. All of it is fixed but the samples of a range's or an
-/// edge's ALTR line; of those it is asked that they tell the two apart. Says what is wrong.
-pub fn notice_agrees(old: &[u8], new: &[u8], text: &[u8]) -> Result<(), String> {
+/// Whether a text is a notice of these two sheets by the rules. All of it is fixed but what an ALTR line of a range, an
+/// edge or a sum shows; of that it is asked that it tells the two apart. Says what is wrong.
+pub fn notice_agrees(old: &[u8], new: &[u8], text: &[u8], tell_sums: TellSums) -> Result<(), String> {
     let old = parts(old).map_err(|refusal| format!("the old sheet is refused: {refusal:?}"))?;
     let new = parts(new).map_err(|refusal| format!("the new sheet is refused: {refusal:?}"))?;
     let mut rest = text;
     let mut wrong = None;
-    each_line(&old, &new, |section, slot, verdict| {
+    each_line(&old, &new, tell_sums, |section, slot, verdict| {
         if wrong.is_some() {
             return;
         }
@@ -287,26 +302,33 @@ pub fn notice_agrees(old: &[u8], new: &[u8], text: &[u8]) -> Result<(), String> 
     }
 }
 
-/// Whether a line is the wanted one but for its samples, and these tell the two apart by the plain rule.
+/// Whether a line is the wanted one but for what it shows, and this tells the two apart: by the plain rule, of a sum by
+/// the model.
 fn shows(section: usize, old: &[u8], new: &[u8], line: &[u8], want: &[u8]) -> bool {
     const FIRST: usize = "RANG 00 ALTR ".len();
-    let (old, new) = (three(old), three(new));
-    let ends = line[..FIRST] == want[..FIRST] && line.ends_with(b"\n");
-    if section == 1 {
-        return ends
-            && sample(&line[FIRST..FIRST + 8]).is_some_and(|sample| {
-                range_hit(old.0, old.1, old.2, sample) != range_hit(new.0, new.1, new.2, sample)
-            });
+    let (head, shown) = line.split_at(FIRST);
+    if head != &want[..FIRST] || !shown.ends_with(b"\n") {
+        return false;
     }
-    let (earlier, later) = (sample(&line[FIRST..FIRST + 8]), sample(&line[FIRST + 9..FIRST + 17]));
-    ends && line[FIRST + 8] == b' '
-        && earlier.zip(later).is_some_and(|(earlier, later)| {
-            edge_hit(old.0, old.1, old.2, earlier, later) != edge_hit(new.0, new.1, new.2, earlier, later)
-        })
+    match section {
+        1 => {
+            let hit = |(lower, upper, mask), sample| range_hit(lower, upper, mask, sample);
+            number(&shown[..8]).is_some_and(|sample| hit(three(old), sample) != hit(three(new), sample))
+        }
+        2 => {
+            let hit = |(rise, fall, neither), (earlier, later)| edge_hit(rise, fall, neither, earlier, later);
+            let samples = number(&shown[..8]).zip(number(&shown[9..17]));
+            shown[8] == b' ' && samples.is_some_and(|samples| hit(three(old), samples) != hit(three(new), samples))
+        }
+        _ => {
+            let hit = |sum, sources| run_sum(&sum_words(operations(sum)), sources);
+            number(&shown[..4]).is_some_and(|sources| hit(old, sources as u16) != hit(new, sources as u16))
+        }
+    }
 }
 
-/// Eight capital hex digits.
-fn sample(digits: &[u8]) -> Option<u32> {
+/// The number that capital hex digits are.
+fn number(digits: &[u8]) -> Option<u32> {
     digits.iter().try_fold(0, |number: u32, digit| match digit {
         b'0'..=b'9' => Some(number << 4 | u32::from(digit - b'0')),
         b'A'..=b'F' => Some(number << 4 | u32::from(digit - b'A' + 10)),

@@ -1,6 +1,6 @@
 //! The bench examples of the rules, those marked P and the others, on the plain implementation.
-use plain::{check, compile, gather, notice, notice_agrees, read, section};
-use plain::{edge_words, range_hit, range_words, run_range, state_word, sum_words, term_hit, term_words, Refusal};
+use plain::{check, compile, gather, notice, notice_agrees, read, scan_telling_sum, section, Refusal};
+use plain::{edge_words, range_hit, range_words, run_range, state_word, sum_words, telling_sum, term_hit, term_words};
 
 const LABEL: &[u8; 8] = b"LABEL   ";
 
@@ -28,12 +28,21 @@ fn state(slot: u8, number: u32, else_state: u8, flags: u8) -> Vec<u8> {
     record
 }
 
+/// The operations by their codes.
+fn sum(slot: u8, operations: [u8; 11]) -> Vec<u8> {
+    [record(slot, &label(slot), &[]), operations.to_vec()].concat()
+}
+
 fn sheet(sections: [&[Vec<u8>]; 5]) -> Vec<u8> {
     sections.iter().flat_map(|records| [vec![records.len() as u8], records.concat()].concat()).collect()
 }
 
 fn range_sheet(lower: u32, upper: u32, mask: u32) -> Vec<u8> {
     sheet([&[], &[record(0, LABEL, &[lower, upper, mask])], &[], &[], &[]])
+}
+
+fn sum_sheet(sums: &[Vec<u8>]) -> Vec<u8> {
+    sheet([&[], &[], &[], sums, &[]])
 }
 
 fn state_sheet(states: &[Vec<u8>]) -> Vec<u8> {
@@ -45,9 +54,9 @@ fn command(opcode: u8, number: u32) -> Vec<u8> {
 }
 
 fn noticed(old: &[u8], new: &[u8]) -> String {
-    let mut out = [0; 2172];
+    let mut out = [0; 2412];
     let length = notice(old, new, &mut out).expect("two accepted sheets and room");
-    notice_agrees(old, new, &out[..length]).expect("its own notice agrees");
+    notice_agrees(old, new, &out[..length], scan_telling_sum).expect("its own notice agrees");
     String::from_utf8(out[..length].to_vec()).expect("plain letters")
 }
 
@@ -259,6 +268,31 @@ fn states_in_a_notice() {
 }
 
 #[test]
+fn sums_in_a_notice() {
+    let one = |operations| sum_sheet(&[sum(0, operations)]);
+    let altered = |old, new| noticed(&one(old), &one(new));
+    // ab AND, OR: a without b, and b without a
+    assert_eq!(altered([2, 0, 0, 0, 0, 0, 0, 0, 4, 0, 4], [4, 0, 0, 0, 0, 0, 0, 0, 4, 0, 4]), "SUMS 00 ALTR 0001\n");
+    // the same under a mid that never asks, and in a half that the final operation leaves out
+    assert_eq!(altered([2, 0, 0, 0, 0, 0, 0, 0, 0, 0, 4], [4, 0, 0, 0, 0, 0, 0, 0, 0, 0, 4]), "SUMS 00 WORD\n");
+    assert_eq!(altered([2, 0, 0, 0, 8, 0, 0, 0, 4, 4, 9], [4, 0, 0, 0, 8, 0, 0, 0, 4, 4, 9]), "SUMS 00 WORD\n");
+    // neither mid, and both of their opposites
+    assert_eq!(altered([8, 0, 0, 0, 8, 0, 0, 0, 4, 4, 5], [8, 0, 0, 0, 8, 0, 0, 0, 5, 5, 2]), "SUMS 00 WORD\n");
+    // j's second source alone
+    assert_eq!(altered([0, 0, 0, 0, 0, 0, 0, 9, 0, 4, 4], [0; 11]), "SUMS 00 ALTR 8000\n");
+    // all sources, and nothing
+    assert_eq!(altered([2; 11], [0; 11]), "SUMS 00 ALTR FFFF\n");
+    assert_eq!(altered([0; 11], [1; 11]), "SUMS 00 ALTR 0000\n");
+    assert_eq!(altered([7; 11], [7; 11]), "");
+    let mut named = sum(47, [0; 11]);
+    named[1] = b'X';
+    let old = sum_sheet(&[sum(3, [0; 11]), sum(9, [0; 11]), sum(46, [6; 11]), sum(47, [1; 11])]);
+    let new = sum_sheet(&[sum(9, [5, 0, 0, 0, 0, 0, 0, 0, 0, 0, 0]), sum(10, [0; 11]), sum(46, [6; 11]), named]);
+    let text = "SUMS 03 GONE\nSUMS 09 WORD\nSUMS 10 NEW\nSUMS 47 NAME\nSUMS 47 ALTR 0000\n";
+    assert_eq!(noticed(&old, &new), text);
+}
+
+#[test]
 fn the_notice_given_whole() {
     let range = record(0, b"LEVELS  ", &[3, 9, 0xF]);
     let terms = [record(0, b"DOORLOCK", &[5, 0xF]), record(1, b"BRAKE   ", &[4, 0xF])];
@@ -281,16 +315,25 @@ fn the_notice_given_whole() {
 
 #[test]
 fn wrong_notices_do_not_agree() {
-    let made = |target, upper, fall, number| {
+    let made = |target, upper, fall, ab, number| {
         let (term, range) = (record(1, LABEL, &[target, 0xF]), record(0, LABEL, &[3, upper, 0xF]));
-        sheet([&[term], &[range], &[record(1, LABEL, &[1, fall, 4])], &[], &[state(7, number, 0, 0)]])
+        let sums = [sum(5, [ab, 0, 0, 0, 0, 0, 0, 0, 4, 0, 4]), sum(6, [ab, 0, 0, 0, 0, 0, 0, 0, 0, 0, 4])];
+        sheet([&[term], &[range], &[record(1, LABEL, &[1, fall, 4])], &sums, &[state(7, number, 0, 0)]])
     };
-    let (old, new) = (made(4, 9, 2, 1), made(6, 8, 0, 2));
-    let agrees = |text: &str| notice_agrees(&old, &new, text.as_bytes()).is_ok();
-    let good = "TERM 01 ALTR 00000004\nRANG 00 ALTR 00000009\nEDGE 01 ALTR 00000002 00000004\nSTAT 07 ALTR\n";
+    let (old, new) = (made(4, 9, 2, 2, 1), made(6, 8, 0, 4, 2));
+    let agrees = |text: &str| {
+        let by_scan = notice_agrees(&old, &new, text.as_bytes(), scan_telling_sum);
+        assert_eq!(by_scan, notice_agrees(&old, &new, text.as_bytes(), telling_sum));
+        by_scan.is_ok()
+    };
+    let good = concat!(
+        "TERM 01 ALTR 00000004\nRANG 00 ALTR 00000009\nEDGE 01 ALTR 00000002 00000004\n",
+        "SUMS 05 ALTR 0001\nSUMS 06 WORD\nSTAT 07 ALTR\n",
+    );
     assert!(agrees(good));
     assert!(agrees(&good.replace("ALTR 00000009", "ALTR FFFFFFF9")), "any telling sample of a range");
     assert!(agrees(&good.replace("2 00000004", "A 00000004")), "any telling pair of an edge");
+    assert!(agrees(&good.replace("ALTR 0001", "ALTR FFFD")), "any telling pattern of a sum");
     for (from, to) in [
         ("00000004\nR", "00000006\nR"),             // tells, but is not the least
         ("00000009", "00000008"),                   // does not tell
@@ -302,6 +345,13 @@ fn wrong_notices_do_not_agree() {
         ("EDGE 01 ALTR 00000002 00000004\n", ""),
         ("RANG 00 ALTR 00000009\n", "RANG 00 WORD\n"),
         ("RANG", "EDGE"),
+        ("ALTR 0001", "ALTR 0003"), // does not tell
+        ("ALTR 0001", "ALTR fffd"), // no capital digits
+        ("ALTR 0001", "ALTR 00000001"),
+        ("ALTR 0001", "ALTR"),
+        ("ALTR 0001", "WORD"),
+        ("SUMS 06 WORD", "SUMS 06 ALTR 0001"),
+        ("SUMS 06 WORD\n", ""),
         ("4\n", "4\r\n"),
         ("STAT 07 ALTR\n", ""),
         ("STAT 07 ALTR\n", "STAT 07 ALTR \n"), // neither a space nor a sample
@@ -342,19 +392,14 @@ fn final_a_and_b() {
 
 #[test]
 fn sizes() {
-    let operations = |slot| {
-        let mut record = record(slot, &label(slot), &[]);
-        record.extend([9; 11]);
-        record
-    };
     let mut full: [Vec<Vec<u8>>; 5] = Default::default();
     full[0] = (0..10).map(|slot| record(slot, &label(slot), &[1, 1])).collect();
     full[1] = (0..2).map(|slot| record(slot, &label(slot), &[1, 1, 1])).collect();
     full[2] = (0..2).map(|slot| record(slot, &label(slot), &[1, 1, 2])).collect();
-    full[3] = (0..48).map(operations).collect();
+    full[3] = (0..48).map(|slot| sum(slot, [9; 11])).collect();
     full[4] = (0..16).map(|slot| state(slot, 1, 15, 0xFF)).collect();
     let old = sheet([&full[0], &full[1], &full[2], &full[3], &full[4]]);
-    for (records, at) in full.iter_mut().zip([9, 17, 9, 9, 9]) {
+    for (records, at) in full.iter_mut().zip([9, 17, 9, 19, 9]) {
         records.iter_mut().for_each(|record| {
             record[1] = b'X';
             record[at] = 4;
@@ -367,7 +412,7 @@ fn sizes() {
     assert_eq!(compile(&old, &mut [0; 2519]), refusal(12, 2520));
     assert_eq!(read(&stream, &mut [0; 1571]), Ok(1571));
     assert_eq!(read(&stream, &mut [0; 1570]), refusal(12, 1571));
-    assert_eq!(noticed(&old, &new).len(), 2172);
+    assert_eq!(noticed(&old, &new).len(), 2412);
     // one byte more of a sheet, one command more of a stream: what is behind changes nothing
     assert_eq!(check(&[&old[..], &[0]].concat()), refusal(11, 1571));
     assert_eq!(read(&[&stream[..], &command(0x9E, 0)].concat(), &mut [0; 1571]), refusal(15, 2520));

@@ -27,7 +27,10 @@ fn examples_are_as_made() {
         assert_eq!(&bytes("lift.back")[at..at + 8], label.as_bytes());
     }
     assert_eq!(&bytes("lift.back")[549..557], b"Q03     ");
-    assert!(bytes("lift-revised.notice").ends_with(b"STAT 01 NAME\nSTAT 02 ALTR\nSTAT 03 GONE\nSTAT 04 NEW\n"));
+    // range 0 without term 3, the only other source that the sum asks for
+    let notice = String::from_utf8(bytes("lift-revised.notice").clone()).expect("text");
+    assert!(notice.contains("\nSUMS 08 ALTR 0400\n"));
+    assert!(notice.ends_with("STAT 01 NAME\nSTAT 02 ALTR\nSTAT 03 GONE\nSTAT 04 NEW\n"));
     let states = concat!(
         " 481  states: 4\n",
         " 482  slot 0 \"LOCKED  \" number 00000003 else 0 flags clear1 clear2 start1 start2\n",

@@ -141,6 +141,50 @@ fn edges_are_told_apart_exactly_when_some_pair_does() {
     }
 }
 
+/// Both ways to tell two sums apart, and that the pattern found does so. Answers whether there was one.
+fn sums_are_told_apart(old: &[u8; 11], new: &[u8; 11]) -> bool {
+    let least = scan_telling_sum(old, new);
+    assert_eq!(telling_sum(old, new), least, "{old:?} {new:?}");
+    assert_eq!(telling_sum(new, old), least, "{new:?} {old:?}");
+    if let Some(sources) = least {
+        assert_ne!(run_sum(&sum_words(old), sources), run_sum(&sum_words(new), sources), "{old:?} {new:?}");
+    }
+    least.is_some()
+}
+
+#[test]
+fn sums_are_told_apart_exactly_when_some_pattern_does() {
+    let mut random = Random(6);
+    let mut alike = [0; 2]; // of any two, and of two that differ in one operation
+    for _ in 0..2_000 {
+        let (old, new) = (make::sum(&mut random), make::sum(&mut random));
+        alike[0] += usize::from(!sums_are_told_apart(&old, &new));
+        alike[1] += usize::from(!sums_are_told_apart(&old, &make::near_sum(&mut random, old)));
+        assert_eq!(telling_sum(&old, &old), None);
+    }
+    assert!((100..400).contains(&alike[0]) && (600..1_400).contains(&alike[1]), "{alike:?}");
+    for round in 0..100 * make::ALIKE_WAYS {
+        let (old, new) = make::alike_sums(&mut random, round % make::ALIKE_WAYS);
+        assert!(!sums_are_told_apart(&old, &new), "{old:?} {new:?}");
+        assert_ne!(sum_words(&old), sum_words(&new), "sums that match alike may have different words");
+    }
+}
+
+/// Of every two operations at every place there is a sum that does something else with the one than with the other.
+#[test]
+fn sums_are_told_apart_by_every_operation() {
+    let mut random = Random(7);
+    for all in 0..11 * 10 * 10 {
+        let (place, before, after) = (all / 100, (all / 10 % 10) as u8, (all % 10) as u8);
+        let told = (0..200).any(|_| {
+            let [mut old, mut new] = [make::sum(&mut random); 2];
+            (old[place], new[place]) = (before, after);
+            before != after && sums_are_told_apart(&old, &new)
+        });
+        assert_eq!(told, before != after, "{before} and {after} at {place}");
+    }
+}
+
 #[test]
 fn states_have_the_same_word_exactly_when_no_field_differs() {
     let mut random = Random(5);
@@ -229,14 +273,16 @@ fn a_stream_is_read_exactly_if_its_sheet_writes_it() {
 fn notices_have_every_line() {
     let mut random = Random(4);
     let mut met = std::collections::BTreeMap::<String, usize>::new();
-    for _ in 0..10_000 {
+    for round in 0..10_000 {
         let taken = random.below(9);
         let old = Setup::random(&mut random, taken);
         let new = old.near(&mut random);
         let (old, new) = (old.sheet(), new.sheet());
         let mut out = vec![0; LONGEST_NOTICE];
         let length = notice(&old, &new, &mut out).expect("two accepted sheets");
-        notice_agrees(&old, &new, &out[..length]).expect("its own notice");
+        // to try all patterns takes long where none tells
+        let tell_sums = if round % 20 == 0 { scan_telling_sum } else { telling_sum };
+        notice_agrees(&old, &new, &out[..length], tell_sums).expect("its own notice");
         for line in String::from_utf8(out[..length].to_vec()).unwrap().lines() {
             *met.entry(format!("{} {}", &line[..4], &line[8..line.len().min(12)])).or_default() += 1;
         }
@@ -246,7 +292,7 @@ fn notices_have_every_line() {
         &["NEW", "GONE", "NAME", "ALTR", "WORD"],
         &["NEW", "GONE", "NAME", "ALTR", "WORD"],
         &["NEW", "GONE", "NAME", "ALTR"],
-        &["NEW", "GONE", "NAME", "OPER"],
+        &["NEW", "GONE", "NAME", "ALTR", "WORD"],
         &["NEW", "GONE", "NAME", "ALTR"],
     ];
     for (kind, verdicts) in kinds.iter().zip(verdicts) {

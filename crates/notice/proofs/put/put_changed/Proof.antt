@@ -14,13 +14,13 @@ returns : tie.Need-returns
 unfolding renderAll
 returns c = rw (sym (c .before .same-bytes .ensures) ∙ c .if1 .taken) (wrote-nil _ _)
 
-change-of-requires : tie.Need-change-of-requires
-change-of-requires c κs = search needs
+telling-of-requires : tie.Need-telling-of-requires
+telling-of-requires c κs = search needs
 
 put-line-requires : tie.Need-put-line-requires
 put-line-requires c κs =
     let asked = c .before .before in
-    rw (c .before .change-of .ensures) (rw (sym (asked .before .same-bytes .ensures) ∙ asked .if1 .left, renderAll-one) at (asked .before .before .before .before .before .pre))
+    rw (c .before .telling-of .ensures) (rw (sym (asked .before .same-bytes .ensures) ∙ asked .if1 .left, renderAll-one) at (asked .before .before .before .before .before .pre))
 
 same-length : tie.Need-same-length
 same-length c = search needs
@@ -29,7 +29,7 @@ returns-2 : tie.Need-returns-2
 returns-2 c =
     let told = c .before .before .before .before in
     let asked = told .before in
-    rw (sym (asked .before .same-bytes .ensures) ∙ asked .if1 .left, renderAll-one) (rw (told .change-of .ensures) at (c .before .before .put-line .ensures))
+    rw (sym (asked .before .same-bytes .ensures) ∙ asked .if1 .left, renderAll-one) (rw (told .telling-of .ensures) at (c .before .before .put-line .ensures))
 
 pub put-changed-spec : {M : Type 1} → statement M
 put-changed-spec =
@@ -37,7 +37,7 @@ put-changed-spec =
     (tie.spec
     same-bytes-requires
     returns
-    change-of-requires
+    telling-of-requires
     put-line-requires
     same-length
     returns-2)

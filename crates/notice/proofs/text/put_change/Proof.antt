@@ -18,35 +18,26 @@ slice-aggregate-put c = search needs
 put-requires : tie.Need-put-requires
 put-requires c κs = rw (c .before .before .enum-told .given .1) at (c .before .before .before .before .before .pre)
 
-enum-told-2 : tie.Need-enum-told-2
-enum-told-2 c = search needs
+enum-known-telling : tie.Need-enum-known-telling
+enum-known-telling c = search needs
 
 slice-aggregate-put-2 : tie.Need-slice-aggregate-put-2
 slice-aggregate-put-2 c = search needs
 
 put-requires-2 : tie.Need-put-requires-2
-put-requires-2 c κs = rw (c .before .before .enum-told2 .given .1) at (c .before .before .before .before .before .pre)
+put-requires-2 c κs = let p = rw (c .before .before .before .telling .given .1, altr-length) at (c .before .before .before .before .before .before .pre) in omega (arith, p)
 
-enum-known-change : tie.Need-enum-known-change
-enum-known-change c = search needs
+put-input-requires : tie.Need-put-input-requires
+put-input-requires c κs = let p = rw (c .before .before .before .before .before .before .before .telling .given .1, altr-length) at (c .before .before .before .before .before .before .before .before .before .before .pre) in omega (arith, p, c .before .before .before .put2 .ensures .next, c .before .before .before .put2 .kept .0)
 
 slice-aggregate-put-3 : tie.Need-slice-aggregate-put-3
 slice-aggregate-put-3 c = search needs
 
 put-requires-3 : tie.Need-put-requires-3
-put-requires-3 c κs = let p = rw (c .before .before .before .change .given .1, altr-length) at (c .before .before .before .before .before .before .pre) in omega (arith, p)
-
-put-input-requires : tie.Need-put-input-requires
-put-input-requires c κs = let p = rw (c .before .before .before .before .before .before .before .change .given .1, altr-length) at (c .before .before .before .before .before .before .before .before .before .before .pre) in omega (arith, p, c .before .before .before .put3 .ensures .next, c .before .before .before .put3 .kept .0)
-
-slice-aggregate-put-4 : tie.Need-slice-aggregate-put-4
-slice-aggregate-put-4 c = search needs
-
-put-requires-4 : tie.Need-put-requires-4
-put-requires-4 c κs =
+put-requires-3 c κs =
     let told = c .before .before .before .before .put-input in
-    let word = c .before .before .before .before .before .before .before .before .put3 in
-    let p = rw (c .before .before .before .before .before .before .before .before .before .before .before .before .change .given .1, altr-length) at (c .before .before .before .before .before .before .before .before .before .before .before .before .before .before .before .pre) in
+    let word = c .before .before .before .before .before .before .before .before .put2 in
+    let p = rw (c .before .before .before .before .before .before .before .before .before .before .before .before .telling .given .1, altr-length) at (c .before .before .before .before .before .before .before .before .before .before .before .before .before .before .before .pre) in
     omega (arith, p, word .ensures .next, word .kept .0, told .ensures .next, told .kept .0)
 
 same-length : tie.Need-same-length
@@ -59,18 +50,12 @@ same-length-2 : tie.Need-same-length-2
 same-length-2 c = search needs
 
 returns-2 : tie.Need-returns-2
-returns-2 c = rw (c .before .before .before .before .before .enum-told2 .given .1) (c .before .before .put2 .ensures)
-
-same-length-3 : tie.Need-same-length-3
-same-length-3 c = search needs
-
-returns-3 : tie.Need-returns-3
-returns-3 c =
+returns-2 c =
     let s = c .before .before .before .before .before .before .before .before .before .before .before .before .before .before .before .before .before .before in
     let a = s .args in
     let h : a .at ≤ length (now (a .out)) = omega (arith, s .pre) in
-    let w = wrote-then (a .at) _ _ _ _ _ _ _ h (c .before .before .before .before .before .before .before .before .before .before .before .put3 .ensures) (c .before .before .before .before .before .before .before .put-input .ensures) in
-    rw (c .before .before .before .before .before .before .before .before .before .before .before .before .before .before .before .change .given .1) (wrote-then (a .at) _ _ _ _ _ _ _ h w (c .before .before .put4 .ensures))
+    let w = wrote-then (a .at) _ _ _ _ _ _ _ h (c .before .before .before .before .before .before .before .before .before .before .before .put2 .ensures) (c .before .before .before .before .before .before .before .put-input .ensures) in
+    rw (c .before .before .before .before .before .before .before .before .before .before .before .before .before .before .before .telling .given .1) (wrote-then (a .at) _ _ _ _ _ _ _ h w (c .before .before .put3 .ensures))
 
 pub put-change-spec : {M : Type 1} → statement M
 put-change-spec =
@@ -79,18 +64,13 @@ put-change-spec =
     enum-told
     slice-aggregate-put
     put-requires
-    enum-told-2
+    enum-known-telling
     slice-aggregate-put-2
     put-requires-2
-    enum-known-change
+    put-input-requires
     slice-aggregate-put-3
     put-requires-3
-    put-input-requires
-    slice-aggregate-put-4
-    put-requires-4
     same-length
     returns
     same-length-2
-    returns-2
-    same-length-3
-    returns-3)
+    returns-2)

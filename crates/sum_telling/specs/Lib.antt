@@ -1,0 +1,4 @@
+pub mod Telling
+pub mod Least
+pub mod Description
+pub mod Numbers
