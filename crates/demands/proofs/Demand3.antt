@@ -10,17 +10,19 @@ use lib.Dec.{lit<}
 use lib.ListN.{length, getD, drop}
 use lib.Seq.{take-append-seam}
 use Rattle.lut.specs.declared.Input.{Input}
-use Rattle.lut.specs.declared.Input.the-variants.{Nothing}
+use Rattle.lut.specs.declared.Input.the-variants.{Nothing, Sources}
 use Rattle.lut.specs.Input.{Fits}
 use Rattle.lut.specs.Telling.{HitAlike, TellsApart, NoneLess}
 use Rattle.peek.specs.Bytes.{Bytes}
 use Rattle.buffer.specs.declared.Verdict.the-variants.{Accepted}
+use Rattle.lut.specs.Answer.{answerHit}
 use Rattle.range.specs.Description.{fromBytes}
+use Rattle.sum.specs.Model.{runSum}
 use Rattle.state.specs.Description as state
 use Rattle.range_telling.specs.Matter.{DroppedWords}
 use Rattle.kinds.specs.Table.{TERMS, RANGES, EDGES, SUMS, STATES, sections, showsOf}
 use Rattle.lut.specs.declared.Telling.{Telling}
-use Rattle.lut.specs.declared.Telling.the-variants.{Apart}
+use Rattle.lut.specs.declared.Telling.the-variants.{Alike, Apart}
 use Rattle.records.specs.Sections.{descriptionOf}
 use Rattle.sheet.specs.Reading.{verdict}
 use Rattle.sheet.specs.Parsed.{parse, recordWith, AcceptedDescription}
@@ -45,6 +47,7 @@ use Rattle.demands.proofs.EqualWords as words
 use Rattle.demands.proofs.NoticeBytes.{Shows}
 use Rattle.demands.proofs.Written.{lines-rendered, text-iff}
 use Rattle.demands.proofs.Sizes.{room-for-every-notice}
+use Rattle.demands.proofs.SumLines.{answerOn, shows-answer, same-answers, a-pattern, every-pattern}
 use Rattle.demands.proofs.AlterationLines as lines
 use Rattle.demands.proofs.NoticeLists as lists
 
@@ -82,6 +85,10 @@ ranges-that-share-words-hit-alike = words.ranges-alike
 pub dropped-words-iff-alike : (d e : List ℕ) → AcceptedDescription RANGES d → AcceptedDescription RANGES e → (ws vs : List ℕ)
     → DroppedWords (fromBytes d) ws → DroppedWords (fromBytes e) vs → (ws ≡ vs) ↔ HitAlike (showsOf RANGES d) (showsOf RANGES e)
 dropped-words-iff-alike = words.dropped-alike
+
+-- a sum shows on a pattern of the sources what the model answers over the chain words that the compiler writes [D3.11]
+pub sum-shows-what-its-words-answer : (d : List ℕ) (s : ℕ) → showsOf SUMS d (Sources s) ≡ answerHit (runSum (chainWordsOf SUMS d) s)
+sum-shows-what-its-words-answer = shows-answer
 
 -- equal words of two states are equal fields, and the other way round [D3.10]
 pub equal-state-words-iff-same-fields : (d e : List ℕ) → AcceptedDescription STATES d → AcceptedDescription STATES e
@@ -132,6 +139,40 @@ module _ (old new : List ℕ) (bo : Bytes old) (bn : Bytes new) (ao : verdict ol
       → NoneLess (showsOf TERMS (descriptionAt TERMS slot old)) (showsOf TERMS (descriptionAt TERMS slot new)) input
   pattern-line-shows-the-least slot input f i =
       lines.pattern-line-shows-the-least old new bo bn ao an slot input (stands-iff TERMS slot (Changed (Apart input)) (omega arith) f .0 i)
+
+  -- a sum's ALTR line shows a pattern of the sources on which the model, over the chain words that the compiler writes for
+  -- the two, does not answer alike [D3.6, D3.11]
+  pub sum-line-shows-a-pattern-that-tells : (slot : ℕ) (input : Input) → Fits input → Stands (written r out′) SUMS slot (Changed (Apart input))
+      → (s : ℕ) × ((s < 65536) × ((input ≡ Sources s) × (answerOn (descriptionAt SUMS slot old) s ≡ answerOn (descriptionAt SUMS slot new) s → ⊥)))
+  sum-line-shows-a-pattern-that-tells slot input f i =
+      let t = line-shows-one-that-does SUMS slot input (lit< tt) f i in
+      let (s, q) = a-pattern _ _ input t in
+      let t′ = rw q at t in
+      (s, (t′ .fits, (q, λ a. t′ .tells (same-answers _ _ s .1 a))))
+
+  -- and there is one exactly where some pattern does so [D3.5, D3.11]
+  pub sum-line-iff-some-pattern-tells : (slot : ℕ) → Shared SUMS slot old new
+      → AlterationIn (written r out′) SUMS slot
+      ↔ ((s : ℕ) × ((s < 65536) × (answerOn (descriptionAt SUMS slot old) s ≡ answerOn (descriptionAt SUMS slot new) s → ⊥)))
+  sum-line-iff-some-pattern-tells slot shared =
+      let says = alteration-iff-some-input-tells SUMS slot (lit< tt) shared in (
+        (λ a. let g = sum-line-shows-a-pattern-that-tells slot (a .input) (a .fits) (a .there) in (g .0, (g .1 .0, g .1 .1 .1))),
+        (λ g.
+            says .1
+            (record { input = Sources (g .0); tells = record { fits = g .1 .0; tells = λ q. g .1 .1 (same-answers _ _ (g .0) .0 q) } })),
+      )
+
+  -- a sum's line is WORD where the operations differ and it answers alike on every pattern, and only there [D3.11]
+  pub sum-word-iff-no-pattern-tells : (slot : ℕ)
+      → Stands (written r out′) SUMS slot (Changed Alike)
+      ↔ (Shared SUMS slot old new × ((descriptionAt SUMS slot old ≡ descriptionAt SUMS slot new → ⊥)
+      × ((s : ℕ) → s < 65536 → answerOn (descriptionAt SUMS slot old) s ≡ answerOn (descriptionAt SUMS slot new) s)))
+  sum-word-iff-no-pattern-tells slot =
+      let there = stands-iff SUMS slot (Changed Alike) (lit< tt) tt in
+      let says = lines.word-iff-alike-on-every-input old new bo bn ao an SUMS slot (lit< tt) in (
+        (λ i. let g = says .0 (there .0 i) in ((g .0, g .1), (g .2, λ s h. same-answers _ _ s .0 (g .3 (Sources s) h)))),
+        (λ g. there .1 (says .1 (g .0 .0, g .0 .1, g .1 .0, every-pattern _ _ (λ s h. same-answers _ _ s .1 (g .1 .1 s h))))),
+      )
 
   -- a state's line is ALTR without a sample where a field differs, and only there [D3.10]
   pub state-line-iff-a-field-differs : (slot : ℕ)

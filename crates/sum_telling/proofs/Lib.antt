@@ -1,8 +1,9 @@
-pub mod Walk
-pub mod Reach
-pub mod Patterns
-pub mod Classes
-pub mod Tells
+pub mod First
+pub mod Chosen
+pub mod Mids
+pub mod Split
+pub mod Found
 pub mod Theorems
 pub mod Cases
 pub mod Handed
+pub mod Examples

@@ -1,4 +1,4 @@
 pub mod Telling
-pub mod Least
+pub mod Halves
 pub mod Description
 pub mod Numbers

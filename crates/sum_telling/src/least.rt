@@ -1,104 +1,78 @@
-// The least patterns by class. A part of the two sums, driven by some of the sources, answers 0 or 1 in the old sum and 0
-// or 1 in the new one: its class is old + 2 * new. For each class stands the least pattern of the part's sources that
-// gives it, or NONE.
+// The least patterns of a half by class: what its old mid answers + 2 * what its new mid answers.
 ghost use mathlib.Core.Path.{_≡_};
-ghost use Prim.Native.Nat.{_<_};
-ghost use Rattle.sum_telling.specs.Least.{bothLeast, lowered, classAt, classOfFour, pairLeast, lowerWalk, stageLeast};
+ghost use Prim.Native.Nat.{ℕ, _+_, _*_, _/_, _%_, _<_};
+ghost use mathlib.Core.Bool.{cond};
+ghost use lib.Count.{trailingZeros};
+ghost use lib.Dec.{eqb};
+ghost use lib.ListN.{getD};
+ghost use Rattle.lines.specs.Line.{line};
+ghost use Rattle.lut.specs.Table.{oneIf};
+ghost use Rattle.sum_telling.specs.Telling.{firstFrom};
+ghost use Rattle.sum_telling.specs.Halves.{halfLeast};
+use crate::sets::mid_sets;
 
-pub(crate) const NONE: u32 = 65536;
+const ALL: u64 = 0xFFFF_FFFF_FFFF_FFFF;
 
-// Two parts with sources of their own: a pattern of both is the sum of theirs.
-fn both_least(a: u32, b: u32) -> u32
-    ensures { λ r. ⌜ r ≡ bothLeast a b ⌝ }
+// No pattern where a mid has to answer 1, all where it has to answer 0: what turns its answers over.
+fn turned(answer: u32) -> u64
+    ensures { λ r. ⌜ ((k : ℕ) → k < 64 → line r k ≡ cond (eqb answer 1) 0 1) ⌝ }
 {
-    if NONE <= a {
-        return NONE;
-    }
-    if NONE <= b {
-        return NONE;
-    }
-    a + b
+    if answer == 1 { 0 } else { ALL }
 }
 
-// The least patterns, when one more is found for a class.
-fn lower_entry(l: &mut [u32; 4], class: usize, pattern: u32)
+// The patterns that have a class, of 64.
+fn class_set(old: u64, new: u64, class: u32) -> u64
     requires { ⌜ class < 4 ⌝ }
-    ensures { λ _. ⌜ now (l .exit) ≡ lowered (now (l .entry)) class pattern ⌝ }
+    ensures { λ r. ⌜ ((k : ℕ) → k < 64 → line r k ≡ oneIf (eqb (line old k + 2 * line new k) class)) ⌝ }
 {
-    if pattern < l[class] {
-        l[class] = pattern;
+    (old ^ turned(class % 2)) & (new ^ turned(class / 2))
+}
+
+// The least pattern of a word of a set, counted from `start` on, or else what the words behind it have.
+fn first_or(word: u64, start: u32, others: u32) -> u32
+    requires { ⌜ start < 256 ⌝ }
+    ensures { λ r. ⌜ (r ≡ cond (eqb word 0) others (start + trailingZeros 64 word)) × ((word ≡ 0 → ⊥) → trailingZeros 64 word < 64) ⌝ }
+{
+    if word == 0 {
+        others
+    } else {
+        start + u64::trailing_zeros(word)
     }
 }
 
-// The class that two tables answer.
-fn class_at(old: u32, new: u32, a: u32, b: u32) -> usize
-    ensures { λ r. ⌜ (r ≡ classAt old new a b) × (r < 4) ⌝ }
+// The least pattern of a set; 256 if it has none.
+fn first_in(s: [u64; 4]) -> u32
+    ensures { λ r. ⌜ r ≡ firstFrom (λ n. eqb (line (getD s (n / 64) 0) (n % 64)) 1) 256 0 ⌝ }
 {
-    (lut::answer_at(old, a) + 2 * lut::answer_at(new, b)) as usize
+    let from3 = first_or(s[3], 192, 256);
+    let from2 = first_or(s[2], 128, from3);
+    let from1 = first_or(s[1], 64, from2);
+    first_or(s[0], 0, from1)
 }
 
-// The class that two tables of four inputs answer, by the classes of these: the digits of lower, base 4, are those of the
-// inputs 0 and 1, the digits of upper those of the inputs 2 and 3.
-fn class_of_four(old: u32, new: u32, lower: u32, upper: u32) -> usize
-    ensures { λ r. ⌜ (r ≡ classOfFour old new lower upper) × (r < 4) ⌝ }
+// The least pattern that has a class, by where the old and the new mid answer 1; 256 if there is none.
+fn least_with(old: [u64; 4], new: [u64; 4], class: u32) -> u32
+    requires { ⌜ class < 4 ⌝ }
+    ensures { λ r. ⌜ r ≡ firstFrom (λ n. eqb (line (getD old (n / 64) 0) (n % 64) + 2 * line (getD new (n / 64) 0) (n % 64)) class) 256 0 ⌝ }
 {
-    class_at(
-        old,
-        new,
-        lower % 2 + 2 * (lower / 4 % 2) + 4 * (upper % 2) + 8 * (upper / 4 % 2),
-        lower / 2 % 2 + 2 * (lower / 8 % 2) + 4 * (upper / 2 % 2) + 8 * (upper / 8 % 2),
-    )
+    first_in([
+        class_set(old[0], new[0], class),
+        class_set(old[1], new[1], class),
+        class_set(old[2], new[2], class),
+        class_set(old[3], new[3], class),
+    ])
 }
 
-// A pair of sources, each alone the pattern a and b. Source A drives the inputs 0 and 1, B the inputs 2 and 3 [M7].
-pub(crate) fn pair_least(old: u32, new: u32, a: u16, b: u16) -> [u32; 4]
-    ensures { λ r. ⌜ r ≡ pairLeast old new a b ⌝ }
+// The least patterns of a half, given as it is in the old sum and in the new one.
+pub(crate) fn half_least(old: [u32; 3], new: [u32; 3]) -> [u32; 4]
+    ensures { λ r. ⌜ r ≡ halfLeast old new ⌝ }
 {
-    let first = a as u32;
-    let second = b as u32;
-    let mut l = [NONE; 4];
-    lower_entry(&mut l, class_at(old, new, 0, 0), 0);
-    lower_entry(&mut l, class_at(old, new, 3, 3), first);
-    lower_entry(&mut l, class_at(old, new, 12, 12), second);
-    lower_entry(&mut l, class_at(old, new, 15, 15), first + second);
-    l
-}
-
-// The classes of the inputs 0 and 1 in turn, where those of the inputs 2 and 3 are upper, and base is their least pattern.
-fn lower_walk(old: u32, new: u32, p: [u32; 4], q: [u32; 4], upper: u32, base: u32, l: &mut [u32; 4])
-    ensures { λ _. ⌜ now (l .exit) ≡ lowerWalk old new p q upper base (now (l .entry)) ⌝ }
-{
-    if NONE <= base {
-        return;
-    }
-    let mut i: u32 = 0;
-    while i < 16 {
-        let x = p[(i % 4) as usize];
-        let y = q[(i / 4) as usize];
-        let class = class_of_four(old, new, i, upper);
-        lower_entry(&mut *l, class, both_least(both_least(x, y), base));
-        i += 1;
-    }
-}
-
-// A stage: two tables of four inputs, each input a part with sources of its own.
-pub(crate) fn stage_least(
-    old: u32,
-    new: u32,
-    p: [u32; 4],
-    q: [u32; 4],
-    r: [u32; 4],
-    s: [u32; 4],
-) -> [u32; 4]
-    ensures { λ l. ⌜ l ≡ stageLeast old new p q r s ⌝ }
-{
-    let mut l = [NONE; 4];
-    let mut j: u32 = 0;
-    while j < 16 {
-        let x = r[(j % 4) as usize];
-        let y = s[(j / 4) as usize];
-        lower_walk(old, new, p, q, j, both_least(x, y), &mut l);
-        j += 1;
-    }
-    l
+    let before = mid_sets(old);
+    let after = mid_sets(new);
+    [
+        least_with(before, after, 0),
+        least_with(before, after, 1),
+        least_with(before, after, 2),
+        least_with(before, after, 3),
+    ]
 }

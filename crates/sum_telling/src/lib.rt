@@ -4,6 +4,7 @@
 mod description;
 mod least;
 mod numbers;
+mod sets;
 mod telling;
 
 pub use description::telling_of;

@@ -1,62 +1,131 @@
 // The least pattern of the sources that tells two sums apart: of each half the least patterns by class, and then of both.
 ghost use mathlib.Core.Path.{_≡_};
+ghost use mathlib.Core.Bool.{cond};
+ghost use Prim.Native.Nat.{ℕ, _+_, _≤_, _<_, min};
+ghost use lib.Dec.{eqb};
+ghost use lib.ListN.{getD};
 ghost use Rattle.lut.specs.Telling.{Says, Least};
 ghost use Rattle.sum.specs.Model.{hit};
 ghost use Rattle.sum_telling.specs.Telling.{leastPattern, sumTelling};
-ghost use Rattle.sum_telling.specs.Least.{halfLeast, sumLeast};
-use crate::least::NONE;
-use crate::least::pair_least;
-use crate::least::stage_least;
+ghost use Rattle.sum_telling.specs.Halves.{firstHalf, lastHalf, halfLeast, firstSources, lastSources, eachOf, rowLeast, finalLeast};
+use crate::least::half_least;
 use lut::Input;
 use lut::Telling;
 
-// The sources of each half's pairs, A and B of each one behind the other, each alone as a pattern [M6].
-const FIRST_SOURCES: [u16; 8] = [1, 2, 4, 1024, 8, 4096, 16, 16384];
+// How many patterns of the sources there are: a number from here on is none.
+pub(crate) const NONE: u32 = 65536;
 
-const LAST_SOURCES: [u16; 8] = [32, 64, 128, 2048, 256, 8192, 512, 32768];
-
-// A mid table of each sum over four pairs; of each sum, two words with the pairs' tables.
-fn half_least(sources: [u16; 8], old: [u32; 2], new: [u32; 2], t: u32, u: u32) -> [u32; 4]
-    ensures { λ r. ⌜ r ≡ halfLeast sources old new t u ⌝ }
+// The sources of a pattern of the first half, 0 to 4, 10, 12 and 14 [M6]; none for 256.
+fn first_sources(n: u32) -> u32
+    requires { ⌜ n ≤ 256 ⌝ }
+    ensures { λ r. ⌜ (r ≡ firstSources n) × (r ≤ 65536) ⌝ }
 {
-    stage_least(
-        t,
-        u,
-        pair_least(old[0] % 65536, new[0] % 65536, sources[0], sources[1]),
-        pair_least(old[0] / 65536, new[0] / 65536, sources[2], sources[3]),
-        pair_least(old[1] % 65536, new[1] % 65536, sources[4], sources[5]),
-        pair_least(old[1] / 65536, new[1] / 65536, sources[6], sources[7]),
+    n % 32 + n / 32 % 2 * 1024 + n / 64 % 2 * 4096 + n / 128 % 2 * 16384 + n / 256 * NONE
+}
+
+// The sources of a pattern of the last half, 5 to 9, 11, 13 and 15.
+fn last_sources(n: u32) -> u32
+    requires { ⌜ n ≤ 256 ⌝ }
+    ensures { λ r. ⌜ (r ≡ lastSources n) × (r ≤ 65536) ⌝ }
+{
+    n % 32 * 32 + n / 32 % 2 * 2048 + n / 64 % 2 * 8192 + n / 128 % 2 * 32768 + n / 256 * NONE
+}
+
+fn lesser(x: u32, y: u32) -> u32
+    ensures { λ r. ⌜ r ≡ min x y ⌝ }
+{
+    if x < y { x } else { y }
+}
+
+// Sources that count only where two answers differ; none where they do not.
+fn if_apart(a: u32, b: u32, sources: u32) -> u32
+    requires { ⌜ sources ≤ 131072 ⌝ }
+    ensures { λ r. ⌜ r ≡ sources + cond (eqb a b) 65536 0 ⌝ }
+{
+    if a == b { sources + NONE } else { sources }
+}
+
+// The least sources of one class of the first half and any of the last half on which the final tables differ.
+fn row_least(old: u32, new: u32, class: u32, first: u32, last: [u32; 4]) -> u32
+    requires { ⌜ class < 4 ⌝ }
+    requires { ⌜ first ≤ 65536 ⌝ }
+    requires { ⌜ ((i : ℕ) → getD last i 0 ≤ 65536) ⌝ }
+    ensures { λ r. ⌜ r ≡ rowLeast old new class first last ⌝ }
+{
+    let a = lut::answer_at(old, class % 2);
+    let b = lut::answer_at(old, class % 2 + 2);
+    let c = lut::answer_at(new, class / 2);
+    let d = lut::answer_at(new, class / 2 + 2);
+    lesser(
+        lesser(
+            if_apart(a, c, first + last[0]),
+            if_apart(b, c, first + last[1]),
+        ),
+        lesser(
+            if_apart(a, d, first + last[2]),
+            if_apart(b, d, first + last[3]),
+        ),
     )
 }
 
-// Both final tables, over the mids: nothing drives their other two inputs.
-fn sum_least(old: [u32; 6], new: [u32; 6]) -> [u32; 4]
-    ensures { λ r. ⌜ r ≡ sumLeast old new ⌝ }
+// The least sources of any class of each half on which the final tables differ.
+fn final_least(old: u32, new: u32, first: [u32; 4], last: [u32; 4]) -> u32
+    requires { ⌜ ((i : ℕ) → getD first i 0 ≤ 65536) ⌝ }
+    requires { ⌜ ((i : ℕ) → getD last i 0 ≤ 65536) ⌝ }
+    ensures { λ r. ⌜ r ≡ finalLeast old new first last ⌝ }
 {
-    let zero = [0, NONE, NONE, NONE];
-    let first = half_least(
-        FIRST_SOURCES,
-        [old[5], old[4]],
-        [new[5], new[4]],
-        old[1] % 65536,
-        new[1] % 65536,
+    lesser(
+        lesser(
+            row_least(old, new, 0, first[0], last),
+            row_least(old, new, 1, first[1], last),
+        ),
+        lesser(
+            row_least(old, new, 2, first[2], last),
+            row_least(old, new, 3, first[3], last),
+        ),
+    )
+}
+
+// The least sources of the first half by class.
+fn first_least(old: [u32; 6], new: [u32; 6]) -> [u32; 4]
+    ensures { λ r. ⌜ (r ≡ eachOf firstSources (halfLeast (firstHalf old) (firstHalf new))) × ((i : ℕ) → getD r i 0 ≤ 65536) ⌝ }
+{
+    let l = half_least(
+        [old[5], old[4], old[1] % 65536],
+        [new[5], new[4], new[1] % 65536],
     );
-    let last = half_least(
-        LAST_SOURCES,
-        [old[3], old[2]],
-        [new[3], new[2]],
-        old[1] / 65536,
-        new[1] / 65536,
+    [
+        first_sources(l[0]),
+        first_sources(l[1]),
+        first_sources(l[2]),
+        first_sources(l[3]),
+    ]
+}
+
+// The least sources of the last half by class.
+fn last_least(old: [u32; 6], new: [u32; 6]) -> [u32; 4]
+    ensures { λ r. ⌜ (r ≡ eachOf lastSources (halfLeast (lastHalf old) (lastHalf new))) × ((i : ℕ) → getD r i 0 ≤ 65536) ⌝ }
+{
+    let l = half_least(
+        [old[3], old[2], old[1] / 65536],
+        [new[3], new[2], new[1] / 65536],
     );
-    stage_least(old[0] % 65536, new[0] % 65536, first, last, zero, zero)
+    [
+        last_sources(l[0]),
+        last_sources(l[1]),
+        last_sources(l[2]),
+        last_sources(l[3]),
+    ]
 }
 
 // The least pattern on which the model does not answer alike over any two chains of six words; NONE if there is none.
 pub(crate) fn least_pattern(old: [u32; 6], new: [u32; 6]) -> u32
     ensures { λ r. ⌜ r ≡ leastPattern old new ⌝ }
 {
-    let l = sum_least(old, new);
-    if l[1] < l[2] { l[1] } else { l[2] }
+    let first = first_least(old, new);
+    let last = last_least(old, new);
+    let least = final_least(old[0] % 65536, new[0] % 65536, first, last);
+    if least < NONE { least } else { NONE }
 }
 
 // What tells two sums apart: the least pattern that does, or that there is none.

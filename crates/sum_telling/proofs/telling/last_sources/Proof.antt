@@ -1,0 +1,53 @@
+-- `sum_telling::telling::last_sources` meets its contract. Assumes nothing.
+use mathlib.Core.Path.{refl}
+use Rattle.sum_telling.proofs.Found.{last-most}
+use Rattle.sum_telling.specs.Halves.{lastSources}
+use borrow.Author.Needs.{needs}
+use Rattle.sum_telling.proofs.telling.last_sources.Statement.{statement}
+use Rattle.sum_telling.proofs.telling.last_sources.Tie as tie
+
+mul-result : tie.Need-mul-result
+mul-result c = search needs
+
+mul-result-2 : tie.Need-mul-result-2
+mul-result-2 c = search needs
+
+add-result : tie.Need-add-result
+add-result c = search needs
+
+mul-result-3 : tie.Need-mul-result-3
+mul-result-3 c = search needs
+
+add-result-2 : tie.Need-add-result-2
+add-result-2 c = search needs
+
+mul-result-4 : tie.Need-mul-result-4
+mul-result-4 c = search needs
+
+add-result-3 : tie.Need-add-result-3
+add-result-3 c = search needs
+
+mul-result-5 : tie.Need-mul-result-5
+mul-result-5 c = search needs
+
+add-result-4 : tie.Need-add-result-4
+add-result-4 c = search needs
+
+returns : tie.Need-returns
+unfolding lastSources
+returns c = (refl, last-most (c .args .n) (c .pre))
+
+pub last-sources-spec : {M : Type 1} → statement M
+last-sources-spec =
+    tie.close
+    (tie.spec
+    mul-result
+    mul-result-2
+    add-result
+    mul-result-3
+    add-result-2
+    mul-result-4
+    add-result-3
+    mul-result-5
+    add-result-4
+    returns)
