@@ -3,12 +3,15 @@
 use Prim.Native.Nat.{ℕ, _-_}
 use mathlib.Core.Bool.{Bool, true, _&&_}
 use mathlib.Core.List.{List, [], _∷_, _++_}
+use mathlib.Core.Path.{_≡_}
 use lib.Count.{ones, trailingZeros}
 use lib.Dec.{T}
 use lib.ListN.{replicate}
 use Rattle.peek.specs.Bytes.{u32At}
 use Rattle.lines.specs.Line.{flipLine}
 use Rattle.lines.specs.Gather.{gathered, scattered, dropLowest}
+use Rattle.lut.specs.declared.Input.the-variants.{Sources}
+use Rattle.lut.specs.declared.Telling.the-variants.{Alike, Apart}
 use Rattle.compare.specs.Same.{same}
 use Rattle.compare.specs.Within.{allWithin}
 use Rattle.buffer.specs.Verdict.{isAccepted}
@@ -22,6 +25,8 @@ use Rattle.term.specs.Telling.{termTelling}
 use Rattle.range.specs.Description as range-kind
 use Rattle.range.specs.Rule.{rangeFault, rangeHit}
 use Rattle.sum.specs.Description as sum-kind
+use Rattle.sum_telling.specs.Description as sum-telling-kind
+use Rattle.sum_telling.proofs.Examples.{seven, never, seven-or-never, under, under′, alike-under-nop}
 use Rattle.state.specs.Description as state-kind
 use Rattle.range_telling.specs.Description as range-telling-kind
 use Rattle.range_telling.specs.Reduce.{reduceFrom, reduceOf}
@@ -136,3 +141,27 @@ allGive (p ∷ ps) =
 pub notices-hold : T (allGive pairs)
 unfolding allGive pairs pair sheetOf programmeOf recordOf stateOf doorlock doorlk left right line TERM RANG SUMS STAT NAME NEW GONE WORD ALTR ALTR4 fieldBytes render joined parse sectionsFrom recordsFrom kindOf descriptionSize mostOf find same u32At noticeText noticeLines sectionsLines linesFrom slotLines sharedLines nameOf tellingOf term-kind.telling range-telling-kind.telling text.render text.renderAll termTelling trailingZeros rangeTelling tellReduced tellBounds tellMasks firstDiffer tellLine turnSample turnValue reduceOf reduceFrom gathered scattered dropLowest flipLine rangeHit among allWithin descriptionFault term-kind.fault range-kind.fault sum-kind.fault state-kind.fault rangeFault ones recordFault recordsVerdict countVerdict sectionVerdict sectionsVerdict verdict
 notices-hold = tt
+
+-- ---- sums: what tells two apart is found by halves (sum_telling, Examples), since trying 65,536 patterns is no computation
+
+-- a sheet with this sum in slot 0
+sumOf : (operations : List ℕ) → List ℕ
+sumOf operations = programmeOf ((0 ∷ (left ++ operations)) ∷ []) []
+
+told-at-01AF : sum-telling-kind.telling seven never ≡ Apart (Sources 0x01AF)
+unfolding sum-telling-kind.telling
+told-at-01AF = seven-or-never
+
+told-alike : sum-telling-kind.telling under under′ ≡ Alike
+unfolding sum-telling-kind.telling
+told-alike = alike-under-nop
+
+-- a sum of seven terms against one that never matches: SUMS 00 ALTR 01AF
+pub sum-altered : noticeText (sumOf seven) (sumOf never) ≡ line SUMS (48 ∷ 48 ∷ []) (ALTR ++ 32 ∷ 48 ∷ 49 ∷ 65 ∷ 70 ∷ [])
+unfolding sumOf programmeOf left line SUMS ALTR render joined parse sectionsFrom recordsFrom kindOf descriptionSize mostOf find same noticeText noticeLines sectionsLines linesFrom slotLines sharedLines nameOf tellingOf text.render text.renderAll
+sum-altered = rw told-at-01AF
+
+-- another operation under a mid that never matches, so with other words: SUMS 00 WORD
+pub sum-word : noticeText (sumOf under) (sumOf under′) ≡ line SUMS (48 ∷ 48 ∷ []) WORD
+unfolding sumOf programmeOf left line SUMS WORD render joined parse sectionsFrom recordsFrom kindOf descriptionSize mostOf find same noticeText noticeLines sectionsLines linesFrom slotLines sharedLines nameOf tellingOf text.render text.renderAll
+sum-word = rw told-alike

@@ -12,23 +12,23 @@ use Rattle.sum_telling.specs.Halves.{midAt, leastWith, halfLeast, firstS
 use Rattle.sum_telling.proofs.Theorems.{found-apart, found-alike}
 
 -- the terms a, b, c, d, f, h and i all hit; and never
-pub seven : List ℕ
+abbrev pub seven : List ℕ
 seven = 2 ∷ 8 ∷ 8 ∷ 1 ∷ 8 ∷ 8 ∷ 8 ∷ 1 ∷ 2 ∷ 2 ∷ 2 ∷ []
 
-pub never : List ℕ
+abbrev pub never : List ℕ
 never = 2 ∷ 8 ∷ 8 ∷ 1 ∷ 8 ∷ 8 ∷ 8 ∷ 1 ∷ 2 ∷ 2 ∷ 0 ∷ []
 
 pub seven-or-never : sumTelling seven never ≡ Apart (Sources 0x01AF)
-unfolding seven never foundLeast finalLeast rowLeast halfLeast leastWith firstFrom midAt inputsOf wordsOf firstSources lastSources
+unfolding foundLeast finalLeast rowLeast halfLeast leastWith firstFrom midAt inputsOf wordsOf firstSources lastSources
 seven-or-never = found-apart seven never 0x01AF refl (lit< tt)
 
 -- a pair's operation under a mid that never matches: other words, and no pattern tells
-pub under : List ℕ
+abbrev pub under : List ℕ
 under = 2 ∷ 0 ∷ 0 ∷ 0 ∷ 4 ∷ 0 ∷ 0 ∷ 0 ∷ 0 ∷ 4 ∷ 4 ∷ []
 
-pub under′ : List ℕ
+abbrev pub under′ : List ℕ
 under′ = 6 ∷ 0 ∷ 0 ∷ 0 ∷ 4 ∷ 0 ∷ 0 ∷ 0 ∷ 0 ∷ 4 ∷ 4 ∷ []
 
 pub alike-under-nop : sumTelling under under′ ≡ Alike
-unfolding under under′ foundLeast finalLeast rowLeast halfLeast leastWith firstFrom midAt inputsOf wordsOf firstSources lastSources
+unfolding foundLeast finalLeast rowLeast halfLeast leastWith firstFrom midAt inputsOf wordsOf firstSources lastSources
 alike-under-nop = found-alike under under′ (leb→le patterns (foundLeast (wordsOf under) (wordsOf under′)) tt)

@@ -11,7 +11,7 @@ use Rattle.lines.proofs.Computed.{every-within}
 use Rattle.lut.specs.Table.{answerAt, oneIf, high, low}
 use Rattle.sum.specs.Model.{pairAt, inputsOf}
 use Rattle.sum_telling.specs.Telling.{firstFrom}
-use Rattle.sum_telling.specs.Halves.{midAt, classAt, leastWith}
+use Rattle.sum_telling.specs.Halves.{Half, midAt, classAt, leastWith}
 use Rattle.sum_telling.proofs.First.{setTest, first-same, first-passes}
 use Rattle.sum_telling.proofs.Chosen.{in-all, in-none}
 
@@ -45,13 +45,13 @@ module _ (n : ℕ) (h : n < 256) where
   all-at i e = in-all (n % 64) (omega arith) ∙ sym e
 
 -- the mid's table, asked in two steps
-module _ (h : List ℕ) (n k : ℕ) (a b c d l₀ l₁ l₂ l₃ u : ℕ)
-    (ea : line a k ≡ pairAt (low (getD h 0 0)) n 0 1) (eb : line b k ≡ pairAt (high (getD h 0 0)) n 2 5)
-    (ec : line c k ≡ pairAt (low (getD h 1 0)) n 3 6) (ed : line d k ≡ pairAt (high (getD h 1 0)) n 4 7)
-    (e₀ : line l₀ k ≡ answerAt (getD h 2 0) (0 + (line a k + 2 * line b k))) (e₁ : line l₁ k ≡ answerAt (getD h 2 0) (4 + (line a k + 2 * line b k)))
-    (e₂ : line l₂ k ≡ answerAt (getD h 2 0) (8 + (line a k + 2 * line b k))) (e₃ : line l₃ k ≡ answerAt (getD h 2 0) (12 + (line a k + 2 * line b k)))
+module _ (h : Half) (n k : ℕ) (a b c d l₀ l₁ l₂ l₃ u : ℕ)
+    (ea : line a k ≡ pairAt (low (h .first)) n 0 1) (eb : line b k ≡ pairAt (high (h .first)) n 2 5)
+    (ec : line c k ≡ pairAt (low (h .second)) n 3 6) (ed : line d k ≡ pairAt (high (h .second)) n 4 7)
+    (e₀ : line l₀ k ≡ answerAt (h .mid) (0 + (line a k + 2 * line b k))) (e₁ : line l₁ k ≡ answerAt (h .mid) (4 + (line a k + 2 * line b k)))
+    (e₂ : line l₂ k ≡ answerAt (h .mid) (8 + (line a k + 2 * line b k))) (e₃ : line l₃ k ≡ answerAt (h .mid) (12 + (line a k + 2 * line b k)))
     (eu : line u k ≡ line (getD (l₀ ∷ l₁ ∷ l₂ ∷ l₃ ∷ []) (line c k + 2 * line d k) 0) k) where
-  lower : (q : ℕ) → q < 4 → line (getD (l₀ ∷ l₁ ∷ l₂ ∷ l₃ ∷ []) q 0) k ≡ answerAt (getD h 2 0) (4 * q + (line a k + 2 * line b k))
+  lower : (q : ℕ) → q < 4 → line (getD (l₀ ∷ l₁ ∷ l₂ ∷ l₃ ∷ []) q 0) k ≡ answerAt (h .mid) (4 * q + (line a k + 2 * line b k))
   lower zero l = e₀
   lower (suc zero) l = e₁
   lower (suc (suc zero)) l = e₂
@@ -61,7 +61,7 @@ module _ (h : List ℕ) (n k : ℕ) (a b c d l₀ l₁ l₂ l₃ u : ℕ)
   pub word-mid : line u k ≡ midAt h n
   unfolding midAt inputsOf
   word-mid =
-      eu ∙ lower (line c k + 2 * line d k) (omega arith) ∙ ap (answerAt (getD h 2 0)) (omega (arith, ea, eb, ec, ed))
+      eu ∙ lower (line c k + 2 * line d k) (omega arith) ∙ ap (answerAt (h .mid)) (omega (arith, ea, eb, ec, ed))
 
 -- the word of a pattern is one of four
 pub four-words : (u₀ u₁ u₂ u₃ x n : ℕ) → n < 256 → (n / 64 ≡ 0 → line u₀ (n % 64) ≡ x) → (n / 64 ≡ 1 → line u₁ (n % 64) ≡ x)
@@ -97,7 +97,7 @@ module _ (old new : List ℕ) (class s₀ s₁ s₂ s₃ : ℕ) where
       (λ n h. four-words s₀ s₁ s₂ s₃ (oneIf (eqb (classIn old new n) class)) n h (word-of s₀ n 0 f₀) (word-of s₁ n 1 f₁) (word-of s₂ n 2 f₂) (word-of s₃ n 3 f₃))
 
 -- of the sets of a half's mids
-pub half-first : (h g old new : List ℕ) (class r : ℕ) → ((n : ℕ) → n < 256 → line (getD old (n / 64) 0) (n % 64) ≡ midAt h n)
+pub half-first : (h g : Half) (old new : List ℕ) (class r : ℕ) → ((n : ℕ) → n < 256 → line (getD old (n / 64) 0) (n % 64) ≡ midAt h n)
     → ((n : ℕ) → n < 256 → line (getD new (n / 64) 0) (n % 64) ≡ midAt g n)
     → r ≡ firstFrom (λ n. eqb (classIn old new n) class) 256 0 → r ≡ leastWith h g class
 unfolding leastWith

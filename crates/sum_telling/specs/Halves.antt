@@ -12,13 +12,23 @@ use Rattle.lut.specs.Table.{answerAt, high, low}
 use Rattle.sum.specs.Model.{inputsOf}
 use Rattle.sum_telling.specs.Telling.{patterns, firstFrom}
 
--- computed: the first half of a chain's words: two words with the pairs' tables, and the mid's table [B6, W14]
-abbrev pub firstHalf : List ℕ → List ℕ
-firstHalf w = getD w 5 0 ∷ getD w 4 0 ∷ low (getD w 1 0) ∷ []
+-- computed: a half of a sum: two words with the tables of its four pairs, and its mid's table [B6, W14]
+pub record Half : Type 0 where
+  pub first : ℕ
+  pub second : ℕ
+  pub mid : ℕ
+
+-- computed: the half of these three [B6, W14]
+abbrev pub half : (first second mid : ℕ) → Half
+half first second mid = record { first = first; second = second; mid = mid }
+
+-- computed: the first half of a chain's words [B6, W14]
+abbrev pub firstHalf : List ℕ → Half
+firstHalf w = half (getD w 5 0) (getD w 4 0) (low (getD w 1 0))
 
 -- computed: the last half [B6, W14]
-abbrev pub lastHalf : List ℕ → List ℕ
-lastHalf w = getD w 3 0 ∷ getD w 2 0 ∷ high (getD w 1 0) ∷ []
+abbrev pub lastHalf : List ℕ → Half
+lastHalf w = half (getD w 3 0) (getD w 2 0) (high (getD w 1 0))
 
 -- computed: the sources of a half's pairs in the half's own pattern, which has its eight sources in rising order [B6, M6]
 abbrev pub halfPairs : List ℕ
@@ -29,20 +39,24 @@ abbrev pub halfPatterns : ℕ
 halfPatterns = 256
 
 -- computed: what a half's mid answers for its pattern [B6, M8]
-unfoldable pub midAt : (half : List ℕ) (pattern : ℕ) → ℕ
-midAt h n = answerAt (getD h 2 0) (inputsOf halfPairs (getD h 0 0) (getD h 1 0) n)
+unfoldable pub midAt : Half → (pattern : ℕ) → ℕ
+midAt h n = answerAt (h .mid) (inputsOf halfPairs (h .first) (h .second) n)
 
 -- computed: the class of a half's pattern: what the old mid answers + 2 * what the new one answers [B6, N9]
-abbrev pub classAt : (old new : List ℕ) (pattern : ℕ) → ℕ
+abbrev pub classAt : (old new : Half) (pattern : ℕ) → ℕ
 classAt h g n = midAt h n + 2 * midAt g n
 
 -- computed: the least of a half's patterns with this class; 256 if there is none [B6, N9]
-unfoldable pub leastWith : (old new : List ℕ) (class : ℕ) → ℕ
+unfoldable pub leastWith : (old new : Half) (class : ℕ) → ℕ
 leastWith h g class = firstFrom (λ n. eqb (classAt h g n) class) halfPatterns 0
 
 -- computed: the same for all four classes [B6, N9]
-unfoldable pub halfLeast : (old new : List ℕ) → List ℕ
+unfoldable pub halfLeast : (old new : Half) → List ℕ
 halfLeast h g = leastWith h g 0 ∷ leastWith h g 1 ∷ leastWith h g 2 ∷ leastWith h g 3 ∷ []
+
+-- computed: four numbers below 65,536 as one, the first the lowest [B6, N9]
+abbrev pub packed : List ℕ → ℕ
+packed l = getD l 0 0 + getD l 1 0 * 65536 + getD l 2 0 * 4294967296 + getD l 3 0 * 281474976710656
 
 -- computed: the sources 0 to 4, 10, 12 and 14 of a pattern of the first half; no pattern for 256 [B6, M6]
 unfoldable pub firstSources : ℕ → ℕ

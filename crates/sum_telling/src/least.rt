@@ -1,14 +1,15 @@
 // The least patterns of a half by class: what its old mid answers + 2 * what its new mid answers.
 ghost use mathlib.Core.Path.{_≡_};
-ghost use Prim.Native.Nat.{ℕ, _+_, _*_, _/_, _%_, _<_};
+ghost use Prim.Native.Nat.{ℕ, _+_, _*_, _/_, _%_, _≤_, _<_};
 ghost use mathlib.Core.Bool.{cond};
+ghost use mathlib.Core.List.{[], _∷_};
 ghost use lib.Count.{trailingZeros};
 ghost use lib.Dec.{eqb};
 ghost use lib.ListN.{getD};
 ghost use Rattle.lines.specs.Line.{line};
 ghost use Rattle.lut.specs.Table.{oneIf};
 ghost use Rattle.sum_telling.specs.Telling.{firstFrom};
-ghost use Rattle.sum_telling.specs.Halves.{halfLeast};
+ghost use Rattle.sum_telling.specs.Halves.{half, halfLeast, packed};
 use crate::sets::mid_sets;
 
 const ALL: u64 = 0xFFFF_FFFF_FFFF_FFFF;
@@ -63,16 +64,53 @@ fn least_with(old: [u64; 4], new: [u64; 4], class: u32) -> u32
     ])
 }
 
-// The least patterns of a half, given as it is in the old sum and in the new one.
-pub(crate) fn half_least(old: [u32; 3], new: [u32; 3]) -> [u32; 4]
-    ensures { λ r. ⌜ r ≡ halfLeast old new ⌝ }
+// Four patterns in one word: an array would go through memory, and what is read of it wait for what is written.
+fn pack(a: u32, b: u32, c: u32, d: u32) -> u64
+    requires { ⌜ (a ≤ 256) × (b ≤ 256) × (c ≤ 256) × (d ≤ 256) ⌝ }
+    ensures { λ r. ⌜ r ≡ packed (a ∷ b ∷ c ∷ d ∷ []) ⌝ }
 {
-    let before = mid_sets(old);
-    let after = mid_sets(new);
-    [
+    a as u64 + b as u64 * 0x1_0000 + c as u64 * 0x1_0000_0000 + d as u64 * 0x1_0000_0000_0000
+}
+
+// The least patterns of a half that is the same in both sums: its mids answer alike.
+fn same_least(first: u32, second: u32, mid: u32) -> u64
+    ensures { λ r. ⌜ r ≡ packed (halfLeast (half first second mid) (half first second mid)) ⌝ }
+{
+    let both = mid_sets(first, second, mid);
+    pack(
+        least_with(both, both, 0),
+        256,
+        256,
+        least_with(both, both, 3),
+    )
+}
+
+// The least patterns of a half by class: a, b and m are what it has in the old sum, c, d and n in the new one.
+fn classes_least(a: u32, b: u32, m: u32, c: u32, d: u32, n: u32) -> u64
+    ensures { λ r. ⌜ r ≡ packed (halfLeast (half a b m) (half c d n)) ⌝ }
+{
+    let before = mid_sets(a, b, m);
+    let after = mid_sets(c, d, n);
+    pack(
         least_with(before, after, 0),
         least_with(before, after, 1),
         least_with(before, after, 2),
         least_with(before, after, 3),
-    ]
+    )
+}
+
+// The same, with half the work where the half did not change.
+pub(crate) fn half_least(a: u32, b: u32, m: u32, c: u32, d: u32, n: u32) -> u64
+    ensures { λ r. ⌜ r ≡ packed (halfLeast (half a b m) (half c d n)) ⌝ }
+{
+    if a != c {
+        return classes_least(a, b, m, c, d, n);
+    }
+    if b != d {
+        return classes_least(a, b, m, c, d, n);
+    }
+    if m != n {
+        return classes_least(a, b, m, c, d, n);
+    }
+    same_least(a, b, m)
 }

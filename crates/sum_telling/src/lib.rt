@@ -2,6 +2,7 @@
 // Promises: the answer is that pattern, and Alike exactly where all 65,536 patterns hit alike, for any operation bytes.
 // Rests on: sum (a sum's operations and words, and what the model makes of them), lut (tables, what telling apart is).
 mod description;
+mod finals;
 mod least;
 mod numbers;
 mod sets;

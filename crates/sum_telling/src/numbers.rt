@@ -2,7 +2,7 @@
 ghost use mathlib.Core.Path.{_≡_};
 ghost use Rattle.sum_telling.specs.Numbers.{isSum, sumTold, ToldMeans};
 use crate::Told;
-use crate::telling::NONE;
+use crate::finals::NONE;
 use crate::telling::least_pattern;
 
 // Refusal 10: bytes that are not eleven operation codes.

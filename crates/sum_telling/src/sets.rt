@@ -7,7 +7,7 @@ ghost use lib.Dec.{eqb};
 ghost use lib.ListN.{getD};
 ghost use Rattle.lines.specs.Line.{line};
 ghost use Rattle.lut.specs.Table.{answerAt};
-ghost use Rattle.sum_telling.specs.Halves.{midAt};
+ghost use Rattle.sum_telling.specs.Halves.{half, midAt};
 
 // All 64 patterns.
 const ALL: u64 = 0xFFFF_FFFF_FFFF_FFFF;
@@ -70,20 +70,20 @@ fn upper_set(l: [u64; 4], c: u64, d: u64) -> u64
 }
 
 // Where a half's mid answers 1; the half is two words with the pairs' tables, and the mid's table.
-pub(crate) fn mid_sets(half: [u32; 3]) -> [u64; 4]
-    ensures { λ r. ⌜ ((n : ℕ) → n < 256 → line (getD r (n / 64) 0) (n % 64) ≡ midAt half n) ⌝ }
+pub(crate) fn mid_sets(first: u32, second: u32, mid: u32) -> [u64; 4]
+    ensures { λ r. ⌜ ((n : ℕ) → n < 256 → line (getD r (n / 64) 0) (n % 64) ≡ midAt (half first second mid) n) ⌝ }
 {
-    let a = pair_set(half[0] % 65536, WITH0, WITH1);
-    let b = pair_set(half[0] / 65536, WITH2, WITH5);
-    let c0 = pair_set(half[1] % 65536, WITH3, 0);
-    let c1 = pair_set(half[1] % 65536, WITH3, ALL);
-    let d0 = pair_set(half[1] / 65536, WITH4, 0);
-    let d1 = pair_set(half[1] / 65536, WITH4, ALL);
+    let a = pair_set(first % 65536, WITH0, WITH1);
+    let b = pair_set(first / 65536, WITH2, WITH5);
+    let c0 = pair_set(second % 65536, WITH3, 0);
+    let c1 = pair_set(second % 65536, WITH3, ALL);
+    let d0 = pair_set(second / 65536, WITH4, 0);
+    let d1 = pair_set(second / 65536, WITH4, ALL);
     let l = [
-        lower_set(half[2], 0, a, b),
-        lower_set(half[2], 4, a, b),
-        lower_set(half[2], 8, a, b),
-        lower_set(half[2], 12, a, b),
+        lower_set(mid, 0, a, b),
+        lower_set(mid, 4, a, b),
+        lower_set(mid, 8, a, b),
+        lower_set(mid, 12, a, b),
     ];
     [
         upper_set(l, c0, d0),

@@ -3,67 +3,38 @@ use Prim.Native.Nat.{_%_, _<_}
 use mathlib.Core.Path.{_∙_}
 use native.Mathlib.Omega.{arith}
 use lib.Dec.{lit<}
+use Rattle.sum_telling.specs.Halves.{half}
 use Rattle.sum_telling.proofs.Mids.{with-source, pair-drives, none-at, all-at, word-mid, four-words}
 use borrow.Author.Needs.{needs}
 use Rattle.sum_telling.proofs.sets.mid_sets.Statement.{statement}
 use Rattle.sum_telling.proofs.sets.mid_sets.Tie as tie
 
-array-read-pair-set : tie.Need-array-read-pair-set
-array-read-pair-set c = search needs
-
 pair-set-requires : tie.Need-pair-set-requires
 pair-set-requires c κs = search needs
-
-array-read-pair-set-2 : tie.Need-array-read-pair-set-2
-array-read-pair-set-2 c = search needs
 
 pair-set-requires-2 : tie.Need-pair-set-requires-2
 pair-set-requires-2 c κs = search needs
 
-array-read-pair-set-3 : tie.Need-array-read-pair-set-3
-array-read-pair-set-3 c = search needs
-
 pair-set-requires-3 : tie.Need-pair-set-requires-3
 pair-set-requires-3 c κs = search needs
-
-array-read-pair-set-4 : tie.Need-array-read-pair-set-4
-array-read-pair-set-4 c = search needs
 
 pair-set-requires-4 : tie.Need-pair-set-requires-4
 pair-set-requires-4 c κs = search needs
 
-array-read-pair-set-5 : tie.Need-array-read-pair-set-5
-array-read-pair-set-5 c = search needs
-
 pair-set-requires-5 : tie.Need-pair-set-requires-5
 pair-set-requires-5 c κs = search needs
-
-array-read-pair-set-6 : tie.Need-array-read-pair-set-6
-array-read-pair-set-6 c = search needs
 
 pair-set-requires-6 : tie.Need-pair-set-requires-6
 pair-set-requires-6 c κs = search needs
 
-array-read-lower-set : tie.Need-array-read-lower-set
-array-read-lower-set c = search needs
-
 lower-set-requires : tie.Need-lower-set-requires
 lower-set-requires c κs = search needs
-
-array-read-lower-set-2 : tie.Need-array-read-lower-set-2
-array-read-lower-set-2 c = search needs
 
 lower-set-requires-2 : tie.Need-lower-set-requires-2
 lower-set-requires-2 c κs = search needs
 
-array-read-lower-set-3 : tie.Need-array-read-lower-set-3
-array-read-lower-set-3 c = search needs
-
 lower-set-requires-3 : tie.Need-lower-set-requires-3
 lower-set-requires-3 c κs = search needs
-
-array-read-lower-set-4 : tie.Need-array-read-lower-set-4
-array-read-lower-set-4 c = search needs
 
 lower-set-requires-4 : tie.Need-lower-set-requires-4
 lower-set-requires-4 c κs = search needs
@@ -85,7 +56,7 @@ returns c =
     λ n hn.
     let k = n % 64 in
     let hk : n % 64 < 64 = omega arith in
-    let h = c .before .before .before .before .before .before .before .before .before .before .before .before .before .before .args .t1 in
+    let h = half (c .before .before .before .before .before .before .before .before .before .before .before .before .before .before .args .first) (c .before .before .before .before .before .before .before .before .before .before .before .before .before .before .args .second) (c .before .before .before .before .before .before .before .before .before .before .before .before .before .before .args .mid) in
     let a = c .before .before .before .before .before .before .before .before .before .before .before .before .before .pair-set .ensures k hk ∙ pair-drives _ n k 0 1 _ _ (with-source n 0 hn (lit< tt)) (with-source n 1 hn (lit< tt)) in
     let b = c .before .before .before .before .before .before .before .before .before .before .before .before .pair-set2 .ensures k hk ∙ pair-drives _ n k 2 5 _ _ (with-source n 2 hn (lit< tt)) (with-source n 5 hn (lit< tt)) in
     let l₀ = c .before .before .before .before .before .before .before .lower-set .ensures k hk in
@@ -110,25 +81,15 @@ pub mid-sets-spec : {M : Type 1} → statement M
 mid-sets-spec =
     tie.close
     (tie.spec
-    array-read-pair-set
     pair-set-requires
-    array-read-pair-set-2
     pair-set-requires-2
-    array-read-pair-set-3
     pair-set-requires-3
-    array-read-pair-set-4
     pair-set-requires-4
-    array-read-pair-set-5
     pair-set-requires-5
-    array-read-pair-set-6
     pair-set-requires-6
-    array-read-lower-set
     lower-set-requires
-    array-read-lower-set-2
     lower-set-requires-2
-    array-read-lower-set-3
     lower-set-requires-3
-    array-read-lower-set-4
     lower-set-requires-4
     upper-set-requires
     upper-set-requires-2

@@ -1,4 +1,4 @@
--- `sum_telling::telling::row_least` meets its contract: the least of four candidates. Assumes nothing.
+-- `sum_telling::finals::row_least` meets its contract: the least of four candidates. Assumes nothing.
 use Prim.Native.Nat.{min}
 use mathlib.Core.Path.{ap, ap₂, _∙_}
 use native.Mathlib.Omega.{arith}
@@ -7,8 +7,8 @@ use Rattle.lut.specs.Table.{answerAt}
 use Rattle.sum_telling.specs.Halves.{rowLeast}
 use Rattle.sum_telling.proofs.Found.{candidate-is}
 use borrow.Author.Needs.{needs}
-use Rattle.sum_telling.proofs.telling.row_least.Statement.{statement}
-use Rattle.sum_telling.proofs.telling.row_least.Tie as tie
+use Rattle.sum_telling.proofs.finals.row_least.Statement.{statement}
+use Rattle.sum_telling.proofs.finals.row_least.Tie as tie
 
 answer-at-requires : tie.Need-answer-at-requires
 answer-at-requires c κs = search needs

@@ -1,9 +1,9 @@
--- `sum_telling::telling::if_apart` meets its contract. Assumes nothing.
+-- `sum_telling::finals::if_apart` meets its contract. Assumes nothing.
 use borrow.Author.Tests.{eq-eqb, ne-eqb}
 use native.Mathlib.Omega.{arith}
 use borrow.Author.Needs.{needs}
-use Rattle.sum_telling.proofs.telling.if_apart.Statement.{statement}
-use Rattle.sum_telling.proofs.telling.if_apart.Tie as tie
+use Rattle.sum_telling.proofs.finals.if_apart.Statement.{statement}
+use Rattle.sum_telling.proofs.finals.if_apart.Tie as tie
 
 add-result : tie.Need-add-result
 add-result c = search needs

@@ -1,10 +1,10 @@
--- `sum_telling::telling::last_sources` meets its contract. Assumes nothing.
+-- `sum_telling::finals::last_sources` meets its contract. Assumes nothing.
 use mathlib.Core.Path.{refl}
 use Rattle.sum_telling.proofs.Found.{last-most}
 use Rattle.sum_telling.specs.Halves.{lastSources}
 use borrow.Author.Needs.{needs}
-use Rattle.sum_telling.proofs.telling.last_sources.Statement.{statement}
-use Rattle.sum_telling.proofs.telling.last_sources.Tie as tie
+use Rattle.sum_telling.proofs.finals.last_sources.Statement.{statement}
+use Rattle.sum_telling.proofs.finals.last_sources.Tie as tie
 
 mul-result : tie.Need-mul-result
 mul-result c = search needs

@@ -1,11 +1,11 @@
--- `sum_telling::telling::final_least` meets its contract: the least of four rows. Assumes nothing.
+-- `sum_telling::finals::final_least` meets its contract: the least of four rows. Assumes nothing.
 use Prim.Native.Nat.{min}
 use mathlib.Core.Path.{ap₂, _∙_}
 use lib.Dec.{lit<}
 use Rattle.sum_telling.specs.Halves.{finalLeast}
 use borrow.Author.Needs.{needs}
-use Rattle.sum_telling.proofs.telling.final_least.Statement.{statement}
-use Rattle.sum_telling.proofs.telling.final_least.Tie as tie
+use Rattle.sum_telling.proofs.finals.final_least.Statement.{statement}
+use Rattle.sum_telling.proofs.finals.final_least.Tie as tie
 
 array-read-row-least : tie.Need-array-read-row-least
 array-read-row-least c = search needs

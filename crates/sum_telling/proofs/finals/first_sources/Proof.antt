@@ -1,10 +1,10 @@
--- `sum_telling::telling::first_sources` meets its contract. Assumes nothing.
+-- `sum_telling::finals::first_sources` meets its contract. Assumes nothing.
 use mathlib.Core.Path.{refl}
 use Rattle.sum_telling.proofs.Found.{first-most}
 use Rattle.sum_telling.specs.Halves.{firstSources}
 use borrow.Author.Needs.{needs}
-use Rattle.sum_telling.proofs.telling.first_sources.Statement.{statement}
-use Rattle.sum_telling.proofs.telling.first_sources.Tie as tie
+use Rattle.sum_telling.proofs.finals.first_sources.Statement.{statement}
+use Rattle.sum_telling.proofs.finals.first_sources.Tie as tie
 
 mul-result : tie.Need-mul-result
 mul-result c = search needs
