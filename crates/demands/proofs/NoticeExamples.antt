@@ -70,7 +70,7 @@ pub record Pair : Type 0 where
 pair : (old new text : List ℕ) → Pair
 pair old new text = record { old = old; new = new; text = text }
 
-line : (kind slot word : List ℕ) → List ℕ
+pub line : (kind slot word : List ℕ) → List ℕ
 line kind slot word = kind ++ 32 ∷ slot ++ 32 ∷ word ++ 10 ∷ []
 
 TERM : List ℕ
@@ -79,7 +79,7 @@ TERM = 84 ∷ 69 ∷ 82 ∷ 77 ∷ []
 RANG : List ℕ
 RANG = 82 ∷ 65 ∷ 78 ∷ 71 ∷ []
 
-SUMS : List ℕ
+pub SUMS : List ℕ
 SUMS = 83 ∷ 85 ∷ 77 ∷ 83 ∷ []
 
 STAT : List ℕ
@@ -94,10 +94,10 @@ NEW = 78 ∷ 69 ∷ 87 ∷ []
 GONE : List ℕ
 GONE = 71 ∷ 79 ∷ 78 ∷ 69 ∷ []
 
-WORD : List ℕ
+pub WORD : List ℕ
 WORD = 87 ∷ 79 ∷ 82 ∷ 68 ∷ []
 
-ALTR : List ℕ
+pub ALTR : List ℕ
 ALTR = 65 ∷ 76 ∷ 84 ∷ 82 ∷ []
 
 -- ALTR 00000004
@@ -145,7 +145,7 @@ notices-hold = tt
 -- ---- sums: what tells two apart is found by halves (sum_telling, Examples), since trying 65,536 patterns is no computation
 
 -- a sheet with this sum in slot 0
-sumOf : (operations : List ℕ) → List ℕ
+pub sumOf : (operations : List ℕ) → List ℕ
 sumOf operations = programmeOf ((0 ∷ (left ++ operations)) ∷ []) []
 
 told-at-01AF : sum-telling-kind.telling seven never ≡ Apart (Sources 0x01AF)
