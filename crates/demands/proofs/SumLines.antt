@@ -1,5 +1,6 @@
--- What tells two sums apart, over the answers of the model: a sum shows on a pattern of the sources what the model answers
--- over the chain words that the compiler writes for it, and nothing but a pattern tells two apart. Assumes nothing.
+-- What tells two sums apart, over the answers of the model: a sum shows on a pattern of the sources what the model
+-- answers over the chain words that the compiler writes for it, and nothing but a pattern tells two apart. Assumes
+-- nothing.
 use Prim.Native.Nat.{ℕ, _<_}
 use mathlib.Core.Path.{_≡_, refl, sym, ap, _∙_}
 use mathlib.Core.Bool.{Bool, true, false}

@@ -1,8 +1,8 @@
 -- How the least pattern is found without asking all of them. Each mid sees eight of the sixteen sources, and no source
--- is seen by both. So it is enough to know, of each half, the least of its 256 patterns for each of the four classes that
--- its old and its new mid can answer, and to ask both final tables for the sixteen pairs of classes.
--- A procedure, not a meaning: nothing here has to be believed. What it answers is pinned by `leastPattern`: found-is-least
--- in proofs/Found [B6].
+-- is seen by both. So it is enough to know, of each half, the least of its 256 patterns for each of the four classes
+-- that its old and its new mid can answer, and to ask both final tables for the sixteen pairs of classes.
+-- A procedure, not a meaning: nothing here has to be believed. What it answers is pinned by `leastPattern`:
+-- found-is-least in proofs/Found [B6].
 use Prim.Native.Nat.{ℕ, _+_, _*_, _/_, _%_, min}
 use mathlib.Core.Bool.{cond}
 use mathlib.Core.List.{List, [], _∷_}
@@ -30,7 +30,8 @@ firstHalf w = half (getD w 5 0) (getD w 4 0) (low (getD w 1 0))
 abbrev pub lastHalf : List ℕ → Half
 lastHalf w = half (getD w 3 0) (getD w 2 0) (high (getD w 1 0))
 
--- computed: the sources of a half's pairs in the half's own pattern, which has its eight sources in rising order [B6, M6]
+-- computed: the sources of a half's pairs in the half's own pattern, which has its eight sources in rising order
+-- [B6, M6]
 abbrev pub halfPairs : List ℕ
 halfPairs = 0 ∷ 1 ∷ 2 ∷ 5 ∷ 3 ∷ 6 ∷ 4 ∷ 7 ∷ []
 

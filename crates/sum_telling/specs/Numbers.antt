@@ -34,8 +34,8 @@ inNumbers least = cond (ltb least patterns) (record { number = 1; sources = leas
 unfoldable pub sumTold : (old new : List ℕ) → Told
 sumTold old new = cond (isSum old && isSum new) (inNumbers (leastPattern (wordsOf old) (wordsOf new))) noSum
 
--- what it means: 0 exactly where the two hit alike, 1 exactly where the pattern tells them apart, and then it is the least
--- that does, 10 exactly where one is no sum; in the first and the last case the pattern is 0 [A14, F10, N6]
+-- what it means: 0 exactly where the two hit alike, 1 exactly where the pattern tells them apart, and then it is the
+-- least that does, 10 exactly where one is no sum; in the first and the last case the pattern is 0 [A14, F10, N6]
 pub record ToldMeans (old new : List ℕ) (t : Told) : Type 0 where
   pub alike : (t .number ≡ 0) ↔ (BothSums old new × HitAlike (hit old) (hit new))
   pub apart : (t .number ≡ 1) ↔ (BothSums old new × TellsApart (hit old) (hit new) (Sources (t .sources)))

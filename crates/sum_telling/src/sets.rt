@@ -1,5 +1,5 @@
-// Sets of the 256 patterns of a half's eight sources, 64 to a word: pattern n is in the set if line n % 64 of word n / 64
-// is 1. So a table is asked for 64 patterns at once, and no branch depends on what it answers.
+// Sets of the 256 patterns of a half's eight sources, 64 to a word: a pattern n is in the set if line n % 64 of the word
+// n / 64 is 1. So a table is asked for 64 patterns at once, and no branch depends on what it answers.
 ghost use mathlib.Core.Path.{_≡_};
 ghost use mathlib.Core.Bool.{cond};
 ghost use Prim.Native.Nat.{ℕ, _+_, _*_, _/_, _%_, _<_};

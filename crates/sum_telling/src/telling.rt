@@ -1,4 +1,5 @@
-// The least pattern of the sources that tells two sums apart: of each half the least patterns by class, and then of both.
+// The least pattern of the sources that tells two sums apart: of each half the least patterns by class, and then of
+// both.
 ghost use mathlib.Core.Path.{_≡_};
 ghost use Prim.Native.Nat.{ℕ, _≤_, _<_};
 ghost use lib.ListN.{getD};
@@ -73,8 +74,8 @@ fn last_least(old: [u32; 6], new: [u32; 6]) -> [u32; 4]
     ]
 }
 
-// The least of all sources on which both halves have classes that the final tables tell apart; NONE or more if there are
-// none.
+// The least of all sources on which both halves have classes that the final tables tell apart; NONE or more if there
+// are none.
 fn found_least(old: [u32; 6], new: [u32; 6]) -> u32
     ensures { λ r. ⌜ r ≡ foundLeast old new ⌝ }
 {
@@ -83,8 +84,8 @@ fn found_least(old: [u32; 6], new: [u32; 6]) -> u32
     final_least(old[0] % 65536, new[0] % 65536, first, last)
 }
 
-// The least pattern on which the model does not answer alike over any two chains of six words; NONE if there is none. The
-// pattern without a source is asked first: it often tells, and none is less.
+// The least pattern on which the model does not answer alike over any two chains of six words; NONE if there is none.
+// The pattern without a source is asked first: it often tells, and none is less.
 pub(crate) fn least_pattern(old: [u32; 6], new: [u32; 6]) -> u32
     ensures { λ r. ⌜ r ≡ leastPattern old new ⌝ }
 {
