@@ -3,7 +3,6 @@
 use Prim.Native.Nat.{ℕ, zero, suc, _+_, _*_, _≤_, _<_, _^_}
 use mathlib.Core.List.{List, [], _∷_, _++_, map, flatten}
 use mathlib.Core.Path.{_≡_, refl, sym, ap, ap₂, _∙_}
-use mathlib.Core.Bool.{Bool}
 use native.Mathlib.Omega.{arith}
 use lib.Dec.{lit<}
 use lib.ListN.{length, getD, take, drop, replicate, length-drop, take-append-drop}
@@ -11,7 +10,6 @@ use lib.Seq.{length-take-le}
 use Rattle.peek.specs.Bytes.{Bytes}
 use Rattle.peek.specs.Fields.{Writes}
 use mathlib.Core.Logic.{_↔_}
-use Rattle.lut.specs.Input.{inNumbers}
 use Rattle.lut.specs.Telling.{HitAlike, Says}
 use Rattle.lut.specs.declared.Telling.the-variants.{Alike}
 use Rattle.lut.proofs.Asked.{alike-iff, says-in-numbers}

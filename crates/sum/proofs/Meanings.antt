@@ -1,7 +1,7 @@
 -- What the operation words do is what the rules say of the operations: one computed test over codes and addresses, passed by each
 -- of the three tables; and so a sum's words, run by the model, do what the tree of its operations says. Assumes nothing.
-use Prim.Native.Nat.{ℕ, zero, suc, _+_, _*_, _≤_, _<_}
-use mathlib.Core.Path.{_≡_, refl, ap, ap₂, _∙_}
+use Prim.Native.Nat.{ℕ, _+_, _*_, _≤_, _<_}
+use mathlib.Core.Path.{_≡_, ap, ap₂, _∙_}
 use mathlib.Core.Bool.{Bool, true, false, _&&_, and-self}
 use mathlib.Core.List.{List, [], _∷_}
 use native.Mathlib.Omega.{arith}

@@ -1,9 +1,9 @@
 -- Sets of 64 patterns, line by line: what choosing between two sets gives, and what a table answers for 64 patterns.
 -- Assumes nothing.
 use Prim.Native.Nat.{ℕ, zero, suc, _+_, _*_, _/_, _%_, _<_}
-use mathlib.Core.Path.{_≡_, refl, sym, ap, ap₂, _∙_}
-use mathlib.Core.Bool.{Bool, true, false, cond}
-use mathlib.Core.List.{List, [], _∷_}
+use mathlib.Core.Path.{_≡_, refl, ap, ap₂, _∙_}
+use mathlib.Core.Bool.{cond}
+use mathlib.Core.List.{[], _∷_}
 use native.Mathlib.Omega.{arith}
 use lib.Bits.{bitAnd, bitXor}
 use lib.Dec.{eqb, eqb→eq}
@@ -11,7 +11,7 @@ use lib.ListN.{getD}
 use Rattle.lines.specs.Line.{line}
 use Rattle.lines.proofs.Digit.{line-and, line-xor}
 use Rattle.lines.proofs.Computed.{digits, every-below, every-within}
-use Rattle.lut.specs.Table.{answerAt, oneIf}
+use Rattle.lut.specs.Table.{oneIf}
 
 -- ---- all patterns and none
 

@@ -3,6 +3,7 @@ pub mod Chosen
 pub mod Mids
 pub mod Split
 pub mod Found
+pub mod Steps
 pub mod Theorems
 pub mod Cases
 pub mod Handed

@@ -5,7 +5,7 @@ use native.Mathlib.Omega.{arith}
 use lib.ListN.{getD}
 use Rattle.lut.specs.Table.{answerAt}
 use Rattle.sum_telling.specs.Halves.{rowLeast}
-use Rattle.sum_telling.proofs.Found.{candidate-is}
+use Rattle.sum_telling.proofs.Steps.{candidate-is}
 use borrow.Author.Needs.{needs}
 use Rattle.sum_telling.proofs.finals.row_least.Statement.{statement}
 use Rattle.sum_telling.proofs.finals.row_least.Tie as tie

@@ -2,7 +2,7 @@
 use mathlib.Core.Path.{ap, _∙_}
 use Rattle.sum_telling.specs.Halves.{half, packed}
 use Rattle.sum_telling.proofs.Mids.{half-first}
-use Rattle.sum_telling.proofs.Found.{with-found, half-four}
+use Rattle.sum_telling.proofs.Steps.{with-found, half-four}
 use borrow.Author.Needs.{needs}
 use Rattle.sum_telling.proofs.least.classes_least.Statement.{statement}
 use Rattle.sum_telling.proofs.least.classes_least.Tie as tie

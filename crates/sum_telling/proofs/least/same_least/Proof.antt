@@ -3,7 +3,7 @@ use mathlib.Core.Path.{ap, _∙_}
 use native.Mathlib.Omega.{arith}
 use Rattle.sum_telling.specs.Halves.{half, packed}
 use Rattle.sum_telling.proofs.Mids.{half-first}
-use Rattle.sum_telling.proofs.Found.{with-found, half-same}
+use Rattle.sum_telling.proofs.Steps.{with-found, half-same}
 use borrow.Author.Needs.{needs}
 use Rattle.sum_telling.proofs.least.same_least.Statement.{statement}
 use Rattle.sum_telling.proofs.least.same_least.Tie as tie

@@ -1,6 +1,4 @@
 -- `sum_telling::least::turned` meets its contract, line by line. Assumes nothing.
-use mathlib.Core.Path.{sym, ap, _∙_}
-use mathlib.Core.Bool.{cond}
 use borrow.Author.Tests.{eq-eqb, ne-eqb}
 use Rattle.sum_telling.proofs.Chosen.{in-all, in-none}
 use Rattle.sum_telling.proofs.least.turned.Statement.{statement}

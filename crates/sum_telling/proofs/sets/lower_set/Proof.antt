@@ -1,7 +1,7 @@
 -- `sum_telling::sets::lower_set` meets its contract, line by line. Assumes nothing.
 use mathlib.Core.Path.{ap, _∙_}
 use native.Mathlib.Omega.{arith}
-use Prim.Native.Nat.{ℕ, _+_}
+use Prim.Native.Nat.{_+_}
 use Rattle.lines.specs.Line.{line}
 use Rattle.lut.specs.Table.{answerAt}
 use Rattle.sum_telling.proofs.Chosen.{three-choices, pick-two}

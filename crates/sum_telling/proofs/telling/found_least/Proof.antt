@@ -1,6 +1,6 @@
 -- `sum_telling::telling::found_least` meets its contract. Assumes nothing.
 use mathlib.Core.Path.{_∙_}
-use Rattle.sum_telling.proofs.Found.{found-joined}
+use Rattle.sum_telling.proofs.Steps.{found-joined}
 use borrow.Author.Needs.{needs}
 use Rattle.sum_telling.proofs.telling.found_least.Statement.{statement}
 use Rattle.sum_telling.proofs.telling.found_least.Tie as tie

@@ -3,7 +3,7 @@ use Prim.Native.Nat.{ℕ, _+_, _*_}
 use mathlib.Core.Path.{ap₂, _∙_}
 use lib.ListN.{getD}
 use Rattle.lut.specs.Table.{answerAt, low}
-use Rattle.sum_telling.proofs.Found.{none-hit}
+use Rattle.sum_telling.proofs.Steps.{none-hit}
 use borrow.Author.Needs.{needs}
 use Rattle.sum_telling.proofs.telling.hit_at_none.Statement.{statement}
 use Rattle.sum_telling.proofs.telling.hit_at_none.Tie as tie

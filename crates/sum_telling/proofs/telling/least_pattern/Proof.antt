@@ -1,6 +1,7 @@
 -- `sum_telling::telling::least_pattern` meets its contract: what is found by halves is the least. Assumes nothing.
 use mathlib.Core.Path.{sym, _∙_}
-use Rattle.sum_telling.proofs.Found.{none-tells-first, found-is-least, found-none}
+use Rattle.sum_telling.proofs.Found.{found-is-least, found-none}
+use Rattle.sum_telling.proofs.Steps.{none-tells-first}
 use borrow.Author.Needs.{needs}
 use Rattle.sum_telling.proofs.telling.least_pattern.Statement.{statement}
 use Rattle.sum_telling.proofs.telling.least_pattern.Tie as tie

@@ -1,6 +1,6 @@
 -- `sum_telling::telling::mid_at_none` meets its contract. Assumes nothing.
 use Rattle.sum_telling.specs.Halves.{half}
-use Rattle.sum_telling.proofs.Found.{mid-none}
+use Rattle.sum_telling.proofs.Steps.{mid-none}
 use borrow.Author.Needs.{needs}
 use Rattle.sum_telling.proofs.telling.mid_at_none.Statement.{statement}
 use Rattle.sum_telling.proofs.telling.mid_at_none.Tie as tie
