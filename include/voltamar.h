@@ -51,7 +51,7 @@ enum voltamar_refusal {
     VOLTAMAR_LOWER_ZERO = 6,        /* lower bound is 0 */
     VOLTAMAR_LOWER_ABOVE_UPPER = 7,
     VOLTAMAR_UPPER_TOO_BIG = 8,     /* for the mask's lines */
-    VOLTAMAR_NEITHER_CLASH = 9,     /* neither together with rise or fall on a line */
+    VOLTAMAR_ALL_ASKED = 9,         /* rise, fall and neither together on a line */
     VOLTAMAR_BAD_OPERATION = 10,    /* operation above 9 */
     VOLTAMAR_LEFT_OVER = 11,        /* bytes behind the last section */
     VOLTAMAR_OUTPUT_TOO_SHORT = 12, /* *place is what is needed: bytes, of the bench words */

@@ -119,7 +119,7 @@ static void add_range(struct setup *s, int slot, uint32_t lower, uint32_t upper,
 static void add_edge(struct setup *s, int slot, uint32_t rise, uint32_t fall, uint32_t neither)
 {
     if (s->edges == EDGES || slot >= EDGES || (s->edges > 0 && s->edge[s->edges - 1].slot >= slot) ||
-        (neither & (rise | fall)) != 0)
+        (rise & fall & neither) != 0)
         fail("an edge that no sheet holds");
     struct edge *e = &s->edge[s->edges++];
     e->slot = slot;
@@ -127,6 +127,18 @@ static void add_edge(struct setup *s, int slot, uint32_t rise, uint32_t fall, ui
     e->rise = rise;
     e->fall = fall;
     e->neither = neither;
+}
+
+/* What a line asks for, as one number: 1 for a rise, 2 for a fall, 4 for neither, added up; but not all three. */
+enum { WISHES = 7 };
+
+/* rise, fall and neither of an edge, asked so far */
+struct asked { uint32_t of[3]; };
+
+static void ask(struct asked *a, uint32_t line, uint32_t wish)
+{
+    for (int event = 0; event < 3; event++)
+        a->of[event] |= (wish >> event & 1) << line;
 }
 
 /* operation p of the sum is (start + p * step) % 10 */
@@ -200,10 +212,14 @@ static void add_random_range(struct setup *s, int slot)
     add_range(s, slot, lower, upper, mask);
 }
 
+/* On each line of a mask any wish; on all the others nothing, or now and then one and the same. */
 static void add_random_edge(struct setup *s, int slot)
 {
-    uint32_t neither = random_mask(), rise = random_mask() & ~neither, fall = random_mask() & ~neither;
-    add_edge(s, slot, rise, fall, neither);
+    struct asked a = {{0}};
+    uint32_t lines = random_mask(), elsewhere = now_and_then(3) ? random_below(WISHES) : 0;
+    for (uint32_t line = 0; line < 32; line++)
+        ask(&a, line, lines >> line & 1 ? random_below(WISHES) : elsewhere);
+    add_edge(s, slot, a.of[0], a.of[1], a.of[2]);
 }
 
 static void add_random_sum(struct setup *s, int slot)
@@ -433,17 +449,17 @@ static void range_cases(void)
         write_case(&s);
 }
 
-static void two_edges(struct setup *s, uint32_t rise, uint32_t fall, uint32_t neither)
+static void two_edges(struct setup *s, const struct asked *a)
 {
-    add_edge(s, s->edges, rise, fall, neither);
+    add_edge(s, s->edges, a->of[0], a->of[1], a->of[2]);
     if (s->edges == EDGES) {
         write_case(s);
         *s = nothing;
     }
 }
 
-/* Each slot alone; nothing asked and each event on all lines; every event on every line alone; then the twenty-five
- * pairs of wishes that two lines may have, at every one of the sixteen tables. */
+/* Each slot alone; each wish on all lines; each wish on every line alone; then the forty-nine pairs of wishes that two
+ * lines may have, at every one of the sixteen tables. */
 static void edge_cases(void)
 {
     struct setup s;
@@ -453,29 +469,25 @@ static void edge_cases(void)
         write_case(&s);
     }
     s = nothing;
-    two_edges(&s, 0, 0, 0);
-    two_edges(&s, 0xFFFFFFFF, 0, 0);
-    two_edges(&s, 0, 0xFFFFFFFF, 0);
-    two_edges(&s, 0, 0, 0xFFFFFFFF);
-    two_edges(&s, 0xFFFFFFFF, 0xFFFFFFFF, 0);
-    two_edges(&s, 0x55555555, 0, 0xAAAAAAAA);
-    for (uint32_t line = 0; line < 32; line++) {
-        uint32_t one = (uint32_t)1 << line;
-        two_edges(&s, one, 0, 0);
-        two_edges(&s, 0, one, 0);
-        two_edges(&s, 0, 0, one);
-        two_edges(&s, one, one, 0);
+    for (uint32_t wish = 0; wish < WISHES; wish++) {
+        struct asked all = {{0}};
+        for (uint32_t line = 0; line < 32; line++)
+            ask(&all, line, wish);
+        two_edges(&s, &all);
     }
-    for (uint32_t n = 0; n < 25; n++) {
-        uint32_t rise = 0, fall = 0, neither = 0;
-        for (uint32_t line = 0; line < 32; line++) {
-            /* a wish: 0 nothing, 1 rise, 2 fall, 3 rise and fall, 4 neither */
-            uint32_t both = (n + 7 * (line / 2)) % 25, wish = line % 2 == 0 ? both % 5 : both / 5;
-            rise |= (wish & 1) << line;
-            fall |= (wish >> 1 & 1) << line;
-            neither |= (wish >> 2 & 1) << line;
+    for (uint32_t line = 0; line < 32; line++)
+        for (uint32_t wish = 1; wish < WISHES; wish++) {
+            struct asked one = {{0}};
+            ask(&one, line, wish);
+            two_edges(&s, &one);
         }
-        two_edges(&s, rise, fall, neither);
+    for (uint32_t n = 0; n < WISHES * WISHES; n++) {
+        struct asked pairs = {{0}};
+        for (uint32_t line = 0; line < 32; line++) {
+            uint32_t both = (n + 10 * (line / 2)) % (WISHES * WISHES);
+            ask(&pairs, line, line % 2 == 0 ? both % WISHES : both / WISHES);
+        }
+        two_edges(&s, &pairs);
     }
     if (s.edges != 0)
         write_case(&s);

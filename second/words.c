@@ -121,6 +121,9 @@ void send_range(int slot, uint32_t lower, uint32_t upper, uint32_t mask)
 
 struct events { uint32_t rise, fall, neither; };
 
+/* Any event that a line asks for counts. The document's listing goes by if and else: where a line asks for neither,
+ * its rise and fall are not looked at. Here, as in the compiler, a table is the OR of all that is asked (the buyer's
+ * seventh request). */
 static int happened(const void *wanted, unsigned address)
 {
     const struct events *e = wanted;

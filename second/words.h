@@ -21,8 +21,8 @@ struct conduct {
 };
 
 /* Each takes what an accepted sheet holds: the slot is below the section's most, a range has lower at least 1, lower
- * at most upper and upper at most what its masked lines can count, no operation is above 9, a state's number has
- * twenty digits at most and its else state four. */
+ * at most upper and upper at most what its masked lines can count, no line of an edge asks for all three events, no
+ * operation is above 9, a state's number has twenty digits at most and its else state four. */
 void send_term(int slot, uint32_t target, uint32_t mask);
 void send_range(int slot, uint32_t lower, uint32_t upper, uint32_t mask);
 void send_edge(int slot, uint32_t rise, uint32_t fall, uint32_t neither);

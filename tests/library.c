@@ -132,6 +132,35 @@ static void states(void) {
     expect(voltamar_check(sheet, 27, &place) == 0 && place == 0, "states: accepted");
 }
 
+/* A sheet with one edge, which asks on line 12 for these added up: 1 for rise, 2 for fall, 4 for neither. The record begins at 3. */
+static uint8_t one_edge(unsigned wishes, size_t *place) {
+    uint8_t sheet[26] = {0, 0, 1, 0, 'E', 'D', 'G', 'E', ' ', ' ', ' ', ' '};
+    for (unsigned event = 0; event < 3; event++) sheet[13 + 4 * event] = (wishes >> event & 1) << 4;
+    return voltamar_check(sheet, 26, place);
+}
+
+static void edges(void) {
+    size_t place = 99;
+    for (unsigned wishes = 0; wishes < 7; wishes++) {
+        place = 99;
+        expect(one_edge(wishes, &place) == 0 && place == 0, "edges: two of the three are accepted, neither and rise too");
+    }
+    expect(one_edge(7, &place) == VOLTAMAR_ALL_ASKED && place == 3, "edges: 9");
+
+    /* neither and rise on line 0; then all three, the table of every address */
+    uint8_t stream[45] = {0x9E, 0x34};
+    const uint8_t back[26] = {0, 0, 1, 0, 'E', '0', '0', ' ', ' ', ' ', ' ', ' ', 1, 0, 0, 0, 0, 0, 0, 0, 1};
+    for (size_t at = 5; at < 45; at += 5) stream[at] = 0x9F;
+    stream[41] = stream[42] = 0xAF;
+    clear();
+    expect(voltamar_compile(back, 26, out, SPACE, &place) == 0 && place == 45 && holds(out, stream, 45), "edges: the commands");
+    clear();
+    expect(voltamar_read(stream, 45, out, SPACE, &place) == 0 && place == 26 && holds(out, back, 26), "edges: the sheet");
+    stream[41] = stream[42] = 0xFF;
+    clear();
+    expect(voltamar_read(stream, 45, out, SPACE, &place) == 16 && place == 0 && holds(out, NULL, 0), "edges: 16");
+}
+
 /* Two sums, each with the label of eight bytes: the second one begins at 24. */
 static uint8_t two_sums(const char *first, const char *second, size_t *place) {
     uint8_t sheet[45] = {0, 0, 0, 2};
@@ -379,6 +408,9 @@ static void rules(void) {
     expect(voltamar_edge_hit(1, 0, 0, 0, 1) && !voltamar_edge_hit(1, 0, 0, 1, 0), "edge_hit: rise");
     expect(voltamar_edge_hit(0, 1, 0, 1, 0) && voltamar_edge_hit(0, 0, 1, 1, 1), "edge_hit: fall, neither");
     expect(!voltamar_edge_hit(0, 0, 0, 1, 0), "edge_hit: nothing asked");
+    expect(voltamar_edge_hit(1, 0, 1, 0, 1) && !voltamar_edge_hit(1, 0, 1, 1, 0), "edge_hit: rise and neither, where the line moves");
+    expect(voltamar_edge_hit(1, 0, 1, 0, 0) && voltamar_edge_hit(1, 0, 1, 1, 1), "edge_hit: rise and neither, where it stays");
+    expect(!voltamar_edge_hit(0, 1, 1, 0, 1) && voltamar_edge_hit(0, 1, 1, 1, 0), "edge_hit: fall and neither");
 }
 
 static void meanings(void) {
@@ -400,6 +432,7 @@ int main(void) {
     check_and_section();
     compile_and_read();
     states();
+    edges();
     labels();
     notices();
     model();

@@ -42,7 +42,7 @@ impl Refusal {
             6 => "lower bound is 0",
             7 => "lower bound above upper",
             8 => "upper bound too big for the mask's lines",
-            9 => "neither together with rise or fall on a line",
+            9 => "rise, fall and neither together on a line",
             10 => "operation above 9",
             11 => "bytes left over",
             12 => "output too short (the place is what is needed)",

@@ -84,6 +84,26 @@ fn the_pair_given_whole() {
     assert_eq!(out, *b"TERM 00 NAME\nTERM 01 ALTR 00000004\nTERM 02 NEW\nRANG 00 GONE\n");
 }
 
+/// Every two edges that ask on two lines alone, each line for one of the seven: only the same ones have no line.
+#[test]
+fn every_two_wishes_of_two_lines() {
+    // a wish is 1 for rise, 2 for fall, 4 for neither, added up
+    let sheet = |both: u32| {
+        let (lower, upper) = (both % 7, both / 7);
+        let lines = |event: u32| (lower >> event & 1) << 1 | (upper >> event & 1) << 30;
+        let edge = [0, 1, 2].map(|event| lines(event).to_le_bytes()).concat();
+        [&[0, 0, 1, 0][..], b"TWOLINES", &edge, &[0, 0]].concat()
+    };
+    for all in 0..49 * 49 {
+        let (old, new) = (sheet(all / 49), sheet(all % 49));
+        let mut out = [0; 31];
+        let length = voltamar::notice(&old, &new, &mut out).expect("accepted, with room");
+        assert_eq!(length, if old == new { 0 } else { 31 }, "old {old:02X?}, new {new:02X?}");
+        let agrees = plain::notice_agrees(&old, &new, &out[..length], plain::telling_sum);
+        assert_eq!(agrees, Ok(()), "old {old:02X?}, new {new:02X?}");
+    }
+}
+
 /// A sheet with every slot taken, the descriptions of a section all the same, its labels the letter and the slot.
 fn full(letter: char, descriptions: [Vec<u8>; plain::SECTIONS]) -> Vec<u8> {
     let mut sheet = Vec::new();

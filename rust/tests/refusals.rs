@@ -15,6 +15,11 @@ fn refusals_are_errors() {
     // a state whose else state is 16
     let sheet = b"\0\0\0\0\x01\0STATE   \x01\0\0\0\x10\0\0\0\0\0\0\0\0";
     assert_eq!(judged(sheet).unwrap_err().to_string(), "refused 18 at 5: a state's field too big for its place");
+    // an edge that asks for everything on line 0, and one that does not ask for a fall
+    let sheet = |fall| [b"\0\0\x01\0DOORMOVE\x01\0\0\0", &[fall, 0, 0, 0][..], b"\x01\0\0\0\0\0"].concat();
+    let all = "refused 9 at 3: rise, fall and neither together on a line";
+    assert_eq!(judged(&sheet(1)).unwrap_err().to_string(), all);
+    assert_eq!(check(&sheet(0)), Ok(()));
     // two terms with one label
     let term = |slot, label: &[u8; 8]| [&[slot][..], label, &[0; 8]].concat();
     let sheet = |label| [&[2][..], &term(0, b"DOORLOCK"), &term(1, label), &[0; 4]].concat();

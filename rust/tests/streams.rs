@@ -35,6 +35,28 @@ fn read_agrees() {
     plain.expect(&[12..=16], STREAMS / 10, STREAMS / 50);
 }
 
+/// Every table in the low and the high half of a word of an edge, the other tables as some edge has them.
+#[test]
+fn every_table_of_an_edge_agrees() {
+    let mut random = Random(0xBF58_476D_1CE4_E5B9);
+    let mut read = 0;
+    for all in 0..2 * 0x1_0000 {
+        let (table, half) = (all as u16, 1 + 2 * (all >> 16));
+        let [rise, fall, neither] = make::edge(&mut random);
+        let words =
+            plain::edge_words(rise, fall, neither).map(|word| [vec![0x9F], word.to_le_bytes().to_vec()].concat());
+        let mut stream = [&[0x9E, 0x34, 0, 0, 0][..], &words.concat()].concat();
+        stream[5 * (1 + random.below(8)) + half..][..2].copy_from_slice(&table.to_le_bytes());
+        let (mut a, mut b) = ([0x77; 26], [0x77; 26]);
+        let got = voltamar::read(&stream, &mut a).map_err(|refusal| (refusal.number, refusal.place));
+        let want = plain::read(&stream, &mut b).map_err(|refusal| (refusal.number, refusal.place));
+        assert_eq!((got, a), (want, b), "stream {stream:02X?}");
+        assert!(matches!(got, Ok(26) | Err((16, 0))), "{got:?}");
+        read += usize::from(got.is_ok());
+    }
+    assert_eq!(read, 2 * 49);
+}
+
 /// Sheet to commands and back, all by the proved library: labels of section and slot, which make an accepted sheet.
 #[test]
 fn reading_back_gives_the_sheet() {

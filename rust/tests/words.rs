@@ -125,8 +125,8 @@ fn model_agrees() {
                 format!("range {words:08X?} {s:08X}")
             }));
 
-        let (rise, fall) = (few(&mut random), few(&mut random));
-        let neither = few(&mut random) & !(rise | fall);
+        let lines = few(&mut random);
+        let [rise, fall, neither] = make::edge(&mut random).map(|asked| asked & lines);
         let earlier = sample(&mut random, &[rise, fall, neither]);
         let later = sample(&mut random, &[earlier, !earlier, rise, fall]);
         let words = if random.one_in(2) {

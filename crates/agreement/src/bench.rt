@@ -1,4 +1,4 @@
-// The examples that are run: each line says what is handed in and what comes of it [E9, E10, E12].
+// The examples that are run: each line says what is handed in and what comes of it [E9, E10, E12, E13].
 use buffer::Outcome;
 use buffer::Verdict;
 
@@ -43,6 +43,15 @@ fn say_final(out: i32, what: &[u8], word: u8) {
     say_stream(out, what, &stream);
 }
 
+// One edge in slot 0, all of it 0 but its last word, both of whose low bytes are this one: the table of lines 0 and 1.
+fn say_table(out: i32, what: &[u8], byte: u8) {
+    let mut stream =
+        *b"\x9E\x34\0\0\0\x9F\0\0\0\0\x9F\0\0\0\0\x9F\0\0\0\0\x9F\0\0\0\0\x9F\0\0\0\0\x9F\0\0\0\0\x9F\0\0\0\0\x9F\0\0\0\0";
+    stream[41] = byte;
+    stream[42] = byte;
+    say_stream(out, what, &stream);
+}
+
 pub(crate) fn say_examples(out: i32) {
     // One range in slot 0 with a label of spaces.
     say_sheet(
@@ -63,4 +72,6 @@ pub(crate) fn say_examples(out: i32) {
     say_final(out, b"final 000C", 0x0C);
     say_final(out, b"final 0002", 0x02);
     say_final(out, b"final 0004", 0x04);
+    say_table(out, b"edge AFAF", 0xAF);
+    say_table(out, b"edge FFFF", 0xFF);
 }

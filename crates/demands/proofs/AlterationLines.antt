@@ -7,13 +7,13 @@ use mathlib.Core.Logic.{_↔_}
 use native.Mathlib.Omega.{arith}
 use lib.Dec.{lit<}
 use Rattle.lut.specs.declared.Input.{Input}
-use Rattle.lut.specs.declared.Input.the-variants.{Nothing}
+use Rattle.lut.specs.declared.Input.the-variants.{Nothing, Samples}
 use Rattle.lut.specs.Telling.{HitAlike, TellsApart, Says, NoneLess}
 use Rattle.peek.specs.Bytes.{Bytes}
 use Rattle.buffer.specs.declared.Verdict.the-variants.{Accepted}
 use Rattle.state.specs.Description as state
 use Rattle.state.proofs.Theorems.{bytes-inverse}
-use Rattle.kinds.specs.Table.{TERMS, STATES, kindOf, descriptionSize, descriptionFault, showsOf, tellingOf}
+use Rattle.kinds.specs.Table.{TERMS, EDGES, STATES, kindOf, descriptionSize, descriptionFault, showsOf, tellingOf}
 use Rattle.lut.specs.declared.Telling.{Telling}
 use Rattle.lut.specs.declared.Telling.the-variants.{Alike, Apart}
 use Rattle.kinds.proofs.Ways as ways
@@ -30,6 +30,7 @@ use Rattle.notice.specs.Shared.{Has, Shared, descriptionAt, Gives}
 use Rattle.notice.proofs.Members as members
 use Rattle.demands.specs.Apart.{SomeInputTells}
 use Rattle.demands.proofs.Tellings.{one-shown, least}
+use Rattle.demands.proofs.EdgeLines.{edges-told}
 use Rattle.demands.proofs.NoticeBytes.{Shows, AllValid, each-valid, equal-bytes-equal-lines}
 
 -- an alteration line, the buyer's term: one with ALTR, and the input that it shows [G10]
@@ -110,6 +111,17 @@ module _ (old new : List ℕ) (bo : Bytes old) (bn : Bytes new) (ao : verdict ol
       alike : Shared k slot old new → (descriptionAt k slot old ≡ descriptionAt k slot new → ⊥)
           → let d = descriptionAt k slot old in let e = descriptionAt k slot new in (tellingOf k d e ≡ Alike) ↔ HitAlike (showsOf k d) (showsOf k e)
       alike s differ = alike-exactly k hk _ _ (changed k slot hk s differ)
+
+  -- two samples tell the edges of a shared slot apart where they differ, and no edge's line is WORD [N10, D3.12]
+  pub edge-told : (slot : ℕ) → Shared EDGES slot old new → (descriptionAt EDGES slot old ≡ descriptionAt EDGES slot new → ⊥)
+      → SomeInputTells EDGES (descriptionAt EDGES slot old) (descriptionAt EDGES slot new)
+  edge-told slot s differ = let t = edges-told _ _ (changed EDGES slot (lit< tt) s differ) in record { input = Samples (t .0) (t .1 .0); tells = t .1 .1 }
+
+  pub edge-never-word : (slot : ℕ) → List·Memᴰ (line EDGES slot (Changed Alike)) (noticeLines old new) → ⊥
+  edge-never-word slot i =
+      let g = word-iff-alike-on-every-input EDGES slot (lit< tt) .0 i in
+      let t = edge-told slot (g .0, g .1) (g .2) in
+      t .tells .tells (g .3 (t .input) (t .tells .fits))
 
   -- a state's line is ALTR where a field differs, shows nothing, and is never another [N6, N8, N10]
   pub state-line : (slot : ℕ)

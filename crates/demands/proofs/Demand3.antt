@@ -10,7 +10,7 @@ use lib.Dec.{lit<}
 use lib.ListN.{length, getD, drop}
 use lib.Seq.{take-append-seam}
 use Rattle.lut.specs.declared.Input.{Input}
-use Rattle.lut.specs.declared.Input.the-variants.{Nothing, Sources}
+use Rattle.lut.specs.declared.Input.the-variants.{Nothing, Samples, Sources}
 use Rattle.lut.specs.Input.{Fits}
 use Rattle.lut.specs.Telling.{HitAlike, TellsApart, NoneLess}
 use Rattle.peek.specs.Bytes.{Bytes}
@@ -47,6 +47,7 @@ use Rattle.demands.proofs.EqualWords as words
 use Rattle.demands.proofs.NoticeBytes.{Shows}
 use Rattle.demands.proofs.Written.{lines-rendered, text-iff}
 use Rattle.demands.proofs.Sizes.{room-for-every-notice}
+use Rattle.demands.proofs.EdgeLines.{edges-told, edges-changed}
 use Rattle.demands.proofs.SumLines.{answerOn, shows-answer, same-answers, a-pattern, every-pattern}
 use Rattle.demands.proofs.AlterationLines as lines
 use Rattle.demands.proofs.NoticeLists as lists
@@ -73,6 +74,11 @@ equal-pattern-words-iff-alike = words.patterns-alike
 pub equal-edge-words-iff-alike : (d e : List ℕ) → AcceptedDescription EDGES d → AcceptedDescription EDGES e
     → (chainWordsOf EDGES d ≡ chainWordsOf EDGES e) ↔ HitAlike (showsOf EDGES d) (showsOf EDGES e)
 equal-edge-words-iff-alike = words.edges-alike
+
+-- and two edges that differ are told apart by two samples [D3.12]
+pub edges-that-differ-are-told-apart : (d e : List ℕ) → AcceptedDescription EDGES d → AcceptedDescription EDGES e → (d ≡ e → ⊥)
+    → (earlier : ℕ) × ((later : ℕ) × TellsApart (showsOf EDGES d) (showsOf EDGES e) (Samples earlier later))
+edges-that-differ-are-told-apart d e a b differ = edges-told d e (edges-changed d e a b differ)
 
 -- ranges with the same words behave alike [D3.3]
 pub ranges-that-share-words-hit-alike : (d e : List ℕ) → AcceptedDescription RANGES d → AcceptedDescription RANGES e
@@ -139,6 +145,19 @@ module _ (old new : List ℕ) (bo : Bytes old) (bn : Bytes new) (ao : verdict ol
       → NoneLess (showsOf TERMS (descriptionAt TERMS slot old)) (showsOf TERMS (descriptionAt TERMS slot new)) input
   pattern-line-shows-the-least slot input f i =
       lines.pattern-line-shows-the-least old new bo bn ao an slot input (stands-iff TERMS slot (Changed (Apart input)) (omega arith) f .0 i)
+
+  -- an edge of a shared slot has an ALTR line where the two differ, and only there [D3.12]
+  pub edge-line-iff-different : (slot : ℕ) → Shared EDGES slot old new
+      → AlterationIn (written r out′) EDGES slot ↔ (descriptionAt EDGES slot old ≡ descriptionAt EDGES slot new → ⊥)
+  edge-line-iff-different slot shared =
+      let says = alteration-iff-some-input-tells EDGES slot (lit< tt) shared in (
+        (λ a q. let w = says .0 a in w .tells .tells (ap (λ (x : List ℕ). showsOf EDGES x (w .input)) q)),
+        (λ differ. says .1 (lines.edge-told old new bo bn ao an slot shared differ)),
+      )
+
+  -- so it is never WORD [N10, D3.12]
+  pub edge-is-never-word : (slot : ℕ) → Stands (written r out′) EDGES slot (Changed Alike) → ⊥
+  edge-is-never-word slot i = lines.edge-never-word old new bo bn ao an slot (stands-iff EDGES slot (Changed Alike) (lit< tt) tt .0 i)
 
   -- a sum's ALTR line shows a pattern of the sources on which the model, over the chain words that the compiler writes for
   -- the two, does not answer alike [D3.6, D3.11]

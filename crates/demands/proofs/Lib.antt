@@ -5,6 +5,7 @@ pub mod Tellings
 pub mod EqualWords
 pub mod NoticeBytes
 pub mod Written
+pub mod EdgeLines
 pub mod SumLines
 pub mod AlterationLines
 pub mod NoticeLists

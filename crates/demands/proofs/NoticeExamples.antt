@@ -8,7 +8,7 @@ use lib.Count.{ones, trailingZeros}
 use lib.Dec.{T}
 use lib.ListN.{replicate}
 use Rattle.peek.specs.Bytes.{u32At}
-use Rattle.lines.specs.Line.{flipLine}
+use Rattle.lines.specs.Line.{overLines, flipLine}
 use Rattle.lines.specs.Gather.{gathered, scattered, dropLowest}
 use Rattle.lut.specs.declared.Input.the-variants.{Sources}
 use Rattle.lut.specs.declared.Telling.the-variants.{Alike, Apart}
@@ -24,6 +24,8 @@ use Rattle.term.specs.Description as term-kind
 use Rattle.term.specs.Telling.{termTelling}
 use Rattle.range.specs.Description as range-kind
 use Rattle.range.specs.Rule.{rangeFault, rangeHit}
+use Rattle.edge.specs.Description as edge-kind
+use Rattle.edge.specs.Telling.{without, tellBy}
 use Rattle.sum.specs.Description as sum-kind
 use Rattle.sum_telling.specs.Description as sum-telling-kind
 use Rattle.sum_telling.proofs.Examples.{seven, never, seven-or-never, under, under′, alike-under-nop}
@@ -35,9 +37,12 @@ use Rattle.notice.specs.Text as text
 use Rattle.notice.specs.Findings.{sharedLines, slotLines}
 use Rattle.notice.specs.Notice.{linesFrom, sectionsLines, noticeLines, noticeText}
 
--- a sheet of these terms and ranges, one of these sums and states, and a record of a slot, a label and numbers
+-- a sheet of these terms and ranges, one of these edges, one of these sums and states, and a record of a slot, a label and numbers
 sheetOf : (terms ranges : List (List ℕ)) → List ℕ
 sheetOf terms ranges = render (terms ∷ ranges ∷ replicate (sections - 2) [])
+
+edgesOf : (edges : List (List ℕ)) → List ℕ
+edgesOf edges = render ([] ∷ [] ∷ edges ∷ replicate (sections - 3) [])
 
 programmeOf : (sums states : List (List ℕ)) → List ℕ
 programmeOf sums states = render ([] ∷ [] ∷ [] ∷ sums ∷ states ∷ replicate (sections - 5) [])
@@ -78,6 +83,9 @@ TERM = 84 ∷ 69 ∷ 82 ∷ 77 ∷ []
 
 RANG : List ℕ
 RANG = 82 ∷ 65 ∷ 78 ∷ 71 ∷ []
+
+EDGE : List ℕ
+EDGE = 69 ∷ 68 ∷ 71 ∷ 69 ∷ []
 
 pub SUMS : List ℕ
 SUMS = 83 ∷ 85 ∷ 77 ∷ 83 ∷ []
@@ -124,6 +132,13 @@ pairs =
     -- 2..3 under mask 3 against 1..1 under mask 2
     ∷ pair (sheetOf [] (recordOf 0 left (2 ∷ 3 ∷ 3 ∷ []) ∷ [])) (sheetOf [] (recordOf 0 left (1 ∷ 1 ∷ 2 ∷ []) ∷ []))
     (line RANG (48 ∷ 48 ∷ []) WORD)
+    -- rise on line 0 goes, line 1 steady or rising in both: EDGE 00 ALTR 00000002 00000001; and steady or rising against steady
+    -- alone: EDGE 01 ALTR 00000000 00000001
+    ∷ pair
+    (edgesOf (recordOf 0 left (3 ∷ 0 ∷ 2 ∷ []) ∷ recordOf 1 right (1 ∷ 0 ∷ 1 ∷ []) ∷ []))
+    (edgesOf (recordOf 0 left (2 ∷ 0 ∷ 2 ∷ []) ∷ recordOf 1 right (0 ∷ 0 ∷ 1 ∷ []) ∷ []))
+    (line EDGE (48 ∷ 48 ∷ []) (ALTR ++ 32 ∷ replicate 7 48 ++ 50 ∷ 32 ∷ replicate 7 48 ++ 49 ∷ [])
+    ++ line EDGE (48 ∷ 49 ∷ []) (ALTR ++ 32 ∷ replicate 8 48 ++ 32 ∷ replicate 7 48 ++ 49 ∷ []))
     -- states, behind the sums: number 0 against number 1 (ALTR and nothing behind it), a label, one gone, one new
     ∷ pair
     (programmeOf ((47 ∷ (left ++ replicate 11 0)) ∷ []) (stateOf 0 left 0 ∷ stateOf 1 doorlock 7 ∷ stateOf 14 right 1 ∷ []))
@@ -139,7 +154,7 @@ allGive (p ∷ ps) =
     isAccepted (verdict (p .old)) && isAccepted (verdict (p .new)) && same (noticeText (p .old) (p .new)) (p .text) && allGive ps
 
 pub notices-hold : T (allGive pairs)
-unfolding allGive pairs pair sheetOf programmeOf recordOf stateOf doorlock doorlk left right line TERM RANG SUMS STAT NAME NEW GONE WORD ALTR ALTR4 fieldBytes render joined parse sectionsFrom recordsFrom kindOf descriptionSize mostOf find same u32At noticeText noticeLines sectionsLines linesFrom slotLines sharedLines nameOf tellingOf term-kind.telling range-telling-kind.telling text.render text.renderAll termTelling trailingZeros rangeTelling tellReduced tellBounds tellMasks firstDiffer tellLine turnSample turnValue reduceOf reduceFrom gathered scattered dropLowest flipLine rangeHit among allWithin descriptionFault term-kind.fault range-kind.fault sum-kind.fault state-kind.fault rangeFault ones recordFault recordsVerdict countVerdict sectionVerdict sectionsVerdict verdict
+unfolding allGive pairs pair sheetOf edgesOf programmeOf recordOf stateOf doorlock doorlk left right line TERM RANG EDGE SUMS STAT NAME NEW GONE WORD ALTR ALTR4 fieldBytes render joined parse sectionsFrom recordsFrom kindOf descriptionSize mostOf find same u32At noticeText noticeLines sectionsLines linesFrom slotLines sharedLines nameOf tellingOf term-kind.telling range-telling-kind.telling edge-kind.telling tellBy without text.render text.renderAll termTelling trailingZeros rangeTelling tellReduced tellBounds tellMasks firstDiffer tellLine turnSample turnValue reduceOf reduceFrom gathered scattered dropLowest flipLine rangeHit among allWithin descriptionFault overLines term-kind.fault range-kind.fault edge-kind.fault sum-kind.fault state-kind.fault rangeFault ones recordFault recordsVerdict countVerdict sectionVerdict sectionsVerdict verdict
 notices-hold = tt
 
 -- ---- sums: what tells two apart is found by halves (sum_telling, Examples), since trying 65,536 patterns is no computation

@@ -60,7 +60,7 @@ allHold (e ∷ es) = holds e && allHold es
 abbrev pub after : (n : ℕ) → List ℕ → List ℕ
 after n words = replicate n 0xFFFFFFFF ++ words
 
--- the table [E1, E2, E3, E4, E5, E6, E7, E8, K5]
+-- the table [E1, E2, E3, E4, E5, E6, E7, E8, E13, K5]
 unfoldable pub bench : List Example
 bench =
     pattern 5 0xF (after 3 (0xFFFF0020 ∷ []))
@@ -78,4 +78,6 @@ bench =
     ∷ word 2 3 3 1 1 2
     ∷ edge 1 0 0 (0 ∷ 0 ∷ 0 ∷ 0 ∷ 0 ∷ 0 ∷ 0 ∷ 0x00000A0A ∷ [])
     ∷ edge 0x80000000 0 0 (0x00CC0000 ∷ 0 ∷ 0 ∷ 0 ∷ 0 ∷ 0 ∷ 0 ∷ 0 ∷ [])
+    ∷ edge 1 0 1 (0 ∷ 0 ∷ 0 ∷ 0 ∷ 0 ∷ 0 ∷ 0 ∷ 0x0000AFAF ∷ [])
+    ∷ edge 0 0x80000000 0x80000000 (0xFF330000 ∷ 0 ∷ 0 ∷ 0 ∷ 0 ∷ 0 ∷ 0 ∷ 0 ∷ [])
     ∷ []

@@ -58,12 +58,12 @@ hit-bits k r f n e l hr hf hn he hl =
 -- the code's test of one line
 acceptedRight : List ℕ → Bool
 acceptedRight ds =
-    Bool·beq (eqb (bitAnd (getD ds 2 0) (bitOr (getD ds 0 0) (getD ds 1 0))) 0) (lineAccepted (getD ds 0 0) (getD ds 1 0) (getD ds 2 0))
+    Bool·beq (eqb (bitAnd (bitAnd (getD ds 0 0) (getD ds 1 0)) (getD ds 2 0)) 0) (lineAccepted (getD ds 0 0) (getD ds 1 0) (getD ds 2 0))
 
-pub accepted-bits : (k r f n : ℕ) → r < 2 ^ k → f < 2 ^ k → n < 2 ^ k → eqb (bitAnd n (bitOr r f)) 0 ≡ linesAccepted k r f n
+pub accepted-bits : (k r f n : ℕ) → r < 2 ^ k → f < 2 ^ k → n < 2 ^ k → eqb (bitAnd (bitAnd r f) n) 0 ≡ linesAccepted k r f n
 unfolding acceptedRight
 accepted-bits k r f n hr hf hn =
-    none-set k (bitAnd n (bitOr r f)) (and-lt k n (bitOr r f) hn (or-lt k r f hr hf))
+    none-set k (bitAnd (bitAnd r f) n) (and-lt k (bitAnd r f) n (and-lt k r f hr hf) hn)
     ∙ lines-cong _&&_ true k _ _
-    (λ i h. rw (line-and n (bitOr r f) i, line-or r f i)
+    (λ i h. rw (line-and (bitAnd r f) n i, line-and r f i)
     (agree _ _ (every-within (digits 3) acceptedRight tt (line r i ∷ line f i ∷ line n i ∷ []) (omega arith))))

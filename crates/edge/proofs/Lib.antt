@@ -8,4 +8,5 @@ pub mod TellLine
 pub mod TellApart
 pub mod TellWalk
 pub mod Theorems
+pub mod Examples
 pub mod Ways

@@ -89,20 +89,20 @@ module _ (a b : Edge) (p : Accepted a) (q : Accepted b) where
     b-misses : hitOf b e l ≡ false
     b-misses = any-none 32 _ (λ i h. each-line i h .0)
 
+    samples-fit : (e < 2 ^ 32) × (l < 2 ^ 32)
+    unfolding e l
+    samples-fit = (
+      earlier-lt d (b .rise) (b .neither) d-lt (q .rise-fits) (q .neither-fits) t,
+      later-lt d (b .rise) (b .neither) d-lt (q .rise-fits) (q .neither-fits) t,
+    )
+
     step : (others : Telling) → (asked t a ≤ asked t b → Tells a b others) → Tells a b (tellBy t a b others)
     unfolding tellBy d e l Tells
     step others rest = go (eqb d 0) refl
       where
         go : (none : Bool) → eqb d 0 ≡ none → Tells a b (cond none others (Apart (Samples e l)))
         go true z = rest (without-none (asked t a) (asked t b) (eqb-true d 0 z))
-        go false z = (
-          a-hits z,
-          b-misses,
-          (
-            earlier-lt d (b .rise) (b .neither) d-lt (q .rise-fits) (q .neither-fits) t,
-            later-lt d (b .rise) (b .neither) d-lt (q .rise-fits) (q .neither-fits) t,
-          ),
-        )
+        go false z = (a-hits z, b-misses, samples-fit)
 
   one-tells : Tells a b (tellOne a b)
   unfolding Tells
@@ -113,6 +113,10 @@ module _ (a b : Edge) (p : Accepted a) (q : Accepted b) where
       each x y z Rise = x
       each x y z Fall = y
       each x y z Neither = z
+
+-- an accepted edge misses where every line does what it does not ask for: the samples that would show nothing of its own
+pub misses : (d : Edge) → Accepted d → (earlier : ℕ) × ((later : ℕ) × (Fits (Samples earlier later) × (hitOf d earlier later ≡ false)))
+misses d p = (_, (_, (samples-fit d d p p Rise, b-misses d d p p Rise)))
 
 -- each asks for nothing that the other does not: they are the same
 both-ways : (a b : Edge) → ((t : Event) → asked t a ≤ asked t b) → ((t : Event) → asked t b ≤ asked t a)

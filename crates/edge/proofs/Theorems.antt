@@ -1,6 +1,7 @@
 -- What is promised of edges. Assumes nothing.
 use Prim.Native.Nat.{ℕ}
 use mathlib.Core.Path.{_≡_, refl, sym, ap, _∙_}
+use mathlib.Core.Bool.{false}
 use mathlib.Core.List.{List, [], _∷_}
 use mathlib.Core.Logic.{_↔_}
 use lib.Dec.{lit<}
@@ -11,6 +12,7 @@ use Rattle.peek.proofs.FieldLaws.{fields-read, fields-written, fit₃, same₃}
 use Rattle.edge.specs.Description.{size, fromBytes, toBytes}
 use Rattle.lut.specs.Answer.{hitOrMiss}
 use Rattle.lut.specs.Back.{Written}
+use Rattle.lut.specs.Input.{Fits}
 use Rattle.lut.specs.Telling.{HitAlike, Says}
 use Rattle.lut.specs.declared.Input.the-variants.{Samples}
 use Rattle.lut.proofs.Asked.{alike-on-pairs}
@@ -28,10 +30,18 @@ use Rattle.edge.proofs.Hits.{model-law}
 use Rattle.edge.proofs.ReadingBack.{read-written, read-means, read-numbered}
 use Rattle.edge.proofs.TellApart as apart
 
+made : (rise fall neither : ℕ) → Edge
+made rise fall neither = record { rise = rise; fall = fall; neither = neither }
+
 -- over an edge's words the model hits exactly when the plain rule does [D2.4]
 pub run-hits : (d : Edge) (earlier later : ℕ) → runEdge (wordsOf d) earlier later ≡ hitOrMiss (hit d (Samples earlier later))
 run-hits d e l =
     run-needed 8 (wordsOf d) _ _ (words-length (d .rise) (d .fall) (d .neither)) (model-law (d .rise) (d .fall) (d .neither) e l)
+
+-- an accepted edge does not hit on every two samples [P10]
+pub accepted-edge-misses : (d : Edge) → Accepted d
+    → (earlier : ℕ) × ((later : ℕ) × (Fits (Samples earlier later) × (hitOf d earlier later ≡ false)))
+accepted-edge-misses = apart.misses
 
 -- an accepted edge's words are read as that edge [C5, D2.5]
 pub words-read-back : (d : Edge) → Accepted d → readEdge (wordsOf d) ≡ ReadEdge.Edge (d .rise) (d .fall) (d .neither)
@@ -58,6 +68,11 @@ module _ (a b : Edge) (p : Accepted a) (q : Accepted b) where
     λ alike. let (x, y, z) = apart.alike-same a b p q alike in cc,
   )
 
+  -- edges that hit alike are one and the same, so any two that differ are told apart [D3.12]
+  pub alike-same : HitAlike (hit a) (hit b) → a ≡ b
+  unfolding made
+  alike-same alike = let (x, y, z) = apart.alike-same a b p q alike in same₃ made x y z
+
   -- the samples that are shown tell the two apart; none are shown where none do [D3.6, N6]
   pub telling-says : Says (hit a) (hit b) (edgeTelling a b)
   telling-says = apart.telling-says a b p q
@@ -66,9 +81,6 @@ module _ (a b : Edge) (p : Accepted a) (q : Accepted b) where
 pub bytes-inverse : (d : List ℕ) → Bytes d → length d ≡ size → toBytes (fromBytes d) ≡ d
 unfolding fieldBytes
 bytes-inverse d h l = fields-written 3 0 d h l
-
-made : (rise fall neither : ℕ) → Edge
-made rise fall neither = record { rise = rise; fall = fall; neither = neither }
 
 pub description-inverse : (e : Edge) → Accepted e → fromBytes (toBytes e) ≡ e
 unfolding made

@@ -9,6 +9,7 @@ use native.Mathlib.Nat.{not-suc-le-zero}
 use native.Mathlib.Omega.{arith}
 use lib.Dec.{lit<}
 use lib.ListN.{length, getD}
+use Rattle.lut.specs.Telling.{HitAlike}
 use Rattle.peek.specs.Bytes.{Bytes}
 use Rattle.peek.specs.Fields.{fieldOf, fieldBytes, Writes}
 use Rattle.buffer.proofs.Faults.{unless-none}
@@ -17,13 +18,13 @@ use Rattle.peek.proofs.FieldLaws.{fields-bytes, fields-read, fit₃, same₃}
 use Rattle.edge.specs.declared.Edge.{Edge}
 use Rattle.edge.specs.declared.ReadEdge.{ReadEdge}
 use Rattle.edge.specs.declared.ReadEdge.the-variants as ReadEdge
-use Rattle.edge.specs.Rule.{edgeAccepted, Accepted}
+use Rattle.edge.specs.Rule.{edgeAccepted, hit, Accepted}
 use Rattle.edge.specs.Words.{edgeWords}
 use Rattle.edge.specs.Back.{readEdge, ReadMeans}
-use Rattle.edge.specs.Description.{size, fromBytes, fault, words, bytesRead, back}
+use Rattle.edge.specs.Description.{size, fromBytes, toBytes, fault, words, bytesRead, back}
 use Rattle.edge.proofs.ReadingBack.{read-means}
 use Rattle.edge.proofs.WordLaws.{words-length, words-lt}
-use Rattle.edge.proofs.Theorems.{words-read-back, bytes-inverse}
+use Rattle.edge.proofs.Theorems.{words-read-back, alike-same, bytes-inverse}
 
 pub words-count : (d : List ℕ) → length (words d) ≡ 8
 unfolding words
@@ -33,9 +34,9 @@ pub fault-none : (d : List ℕ) → edgeAccepted (fieldOf d 0) (fieldOf d 1) (fi
 unfolding fault
 fault-none d e = rw e
 
-pub fault-clash : (d : List ℕ) → edgeAccepted (fieldOf d 0) (fieldOf d 1) (fieldOf d 2) ≡ false → fault d ≡ 9
+pub fault-all-asked : (d : List ℕ) → edgeAccepted (fieldOf d 0) (fieldOf d 1) (fieldOf d 2) ≡ false → fault d ≡ 9
 unfolding fault
-fault-clash d e = rw e
+fault-all-asked d e = rw e
 
 pub accepted : (d : List ℕ) → Bytes d → fault d ≡ 0 → Accepted (fromBytes d)
 unfolding fault
@@ -49,6 +50,12 @@ accepted d h f =
 
 pub faultless-iff : (d : List ℕ) → Bytes d → length d ≡ size → (fault d ≡ 0) ↔ Accepted (fromBytes d)
 faultless-iff d h l = (accepted d h, (λ a. fault-none d (a .ok)))
+
+-- descriptions that hit alike have the same bytes
+pub alike-bytes : (d e : List ℕ) → Bytes d → Bytes e → length d ≡ size → length e ≡ size → fault d ≡ 0 → fault e ≡ 0
+    → HitAlike (hit (fromBytes d)) (hit (fromBytes e)) → d ≡ e
+alike-bytes d e hd he ld le fd fe alike =
+    sym (bytes-inverse d hd ld) ∙ ap toBytes (alike-same (fromBytes d) (fromBytes e) (accepted d hd fd) (accepted e he fe) alike) ∙ bytes-inverse e he le
 
 pub back-words : (d : List ℕ) → Bytes d → length d ≡ size → fault d ≡ 0 → back (words d) ≡ d
 unfolding back words fieldBytes

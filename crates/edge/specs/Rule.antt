@@ -29,15 +29,15 @@ linesHit k r f n e l = anyLine k (λ i. lineHit (line r i) (line f i) (line n i)
 abbrev pub edgeHit : (rise fall neither earlier later : ℕ) → Bool
 edgeHit = linesHit 32
 
--- a line does not ask for neither together with rise or fall [P10, F9]
+-- a line does not ask for all three: rise, fall and neither [P10, F9]
 abbrev pub lineAccepted : (r f n : ℕ) → Bool
-lineAccepted r f n = not (eqb n 1 && (eqb r 1 || eqb f 1))
+lineAccepted r f n = not (eqb r 1 && (eqb f 1 && eqb n 1))
 
--- none of the lowest k lines does so [P10, F9]
+-- none of the lowest k lines asks for all three [P10, F9]
 abbrev pub linesAccepted : (k rise fall neither : ℕ) → Bool
 linesAccepted k r f n = everyLine k (λ i. lineAccepted (line r i) (line f i) (line n i))
 
--- none of the 32 lines does so: what refusal 9 leaves [P10, F9]
+-- none of the 32 lines does: what refusal 9 leaves [P10, F9]
 abbrev pub edgeAccepted : (rise fall neither : ℕ) → Bool
 edgeAccepted = linesAccepted 32
 

@@ -9,7 +9,7 @@ use lut::Telling;
 
 const NO_FAULT: u8 = 0;
 
-const NEITHER_CLASH: u8 = 9;
+const ALL_ASKED: u8 = 9;
 
 fn from_bytes(bytes: &[u8]) -> Edge
     ensures { λ r. ⌜ r ≡ description.fromBytes (now (bytes .entry)) ⌝ }
@@ -35,7 +35,7 @@ pub fn fault(bytes: &[u8]) -> u8
     if super::rule::edge_accepted(d.rise, d.fall, d.neither) {
         NO_FAULT
     } else {
-        NEITHER_CLASH
+        ALL_ASKED
     }
 }
 

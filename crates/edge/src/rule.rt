@@ -20,9 +20,9 @@ pub fn edge_hit(rise: u32, fall: u32, neither: u32, earlier: u32, later: u32) ->
     (rising | falling | steady) != 0
 }
 
-// Whether the wishes of every line may stand in a sheet.
+// Whether no line asks for all three.
 pub(crate) fn edge_accepted(rise: u32, fall: u32, neither: u32) -> bool
     ensures { λ r. ⌜ r ≡ edgeAccepted rise fall neither ⌝ }
 {
-    neither & (rise | fall) == 0
+    rise & fall & neither == 0
 }

@@ -128,8 +128,8 @@ fn put_events(out: &mut [u8], at: usize, description: &[u8]) -> usize {
     put_number(
         out,
         c,
-        b", together on line ",
-        lowest_line(neither & (rise | fall)),
+        b", all three on line ",
+        lowest_line(rise & fall & neither),
     )
 }
 

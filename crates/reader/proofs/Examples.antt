@@ -117,10 +117,13 @@ table =
     -- a term's word one bit off; chains with different masks, behind a term
     ∷ gives (chain 0x21 (0xFFFFFFFF ∷ 0xFFFFFFFF ∷ 0xFFFFFFFF ∷ 0xFFFF0021 ∷ [])) (Refused 16 0)
     ∷ gives (term ++ (lower ++ chain 0x31 (ends 0xAAAA5555 0x5555FFFF))) (Refused 16 25)
-    -- mask 0; an edge's table that asks neither together with rise; a sum's first word with another high half than 0
+    -- mask 0; a sum's first word with another high half than 0
     ∷ gives (chain 0x30 (replicate 16 0xFFFFFFFF) ++ chain 0x31 (replicate 16 0xFFFFFFFF)) (Refused 16 0)
-    ∷ gives (chain 0x34 (0 ∷ 0 ∷ 0 ∷ 0 ∷ 0 ∷ 0 ∷ 0 ∷ 0xAFAF ∷ [])) (Refused 16 0)
     ∷ gives (chain 0x40 (0x10000 ∷ 0 ∷ 0 ∷ 0 ∷ 0 ∷ 0 ∷ [])) (Refused 16 0)
+    -- an edge's table where a line asks for neither and rise, one bit off it, and where a line asks for all three
+    ∷ gives (chain 0x34 (0 ∷ 0 ∷ 0 ∷ 0 ∷ 0 ∷ 0 ∷ 0 ∷ 0xAFAF ∷ [])) Accepted
+    ∷ gives (chain 0x34 (0 ∷ 0 ∷ 0 ∷ 0 ∷ 0 ∷ 0 ∷ 0 ∷ 0xAFBF ∷ [])) (Refused 16 0)
+    ∷ gives (chain 0x34 (0 ∷ 0 ∷ 0 ∷ 0 ∷ 0 ∷ 0 ∷ 0 ∷ 0xFFFF ∷ [])) (Refused 16 0)
     -- nothing to refuse
     ∷ gives (first ++ (last ++ (term ++ (lower ++ upper)))) Accepted
     ∷ []

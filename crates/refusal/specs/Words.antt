@@ -26,7 +26,7 @@ meanings =
     ∷ "lower bound is 0"
     ∷ "lower bound above upper"
     ∷ "upper bound too big for the mask's lines"
-    ∷ "neither together with rise or fall on a line"
+    ∷ "rise, fall and neither together on a line"
     ∷ "operation above 9"
     ∷ "bytes left over"
     ∷ "output too short (the place is what is needed)"

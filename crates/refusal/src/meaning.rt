@@ -22,7 +22,7 @@ const MEANINGS: [u8; ROWS * WIDTH] = *b"\
     lower bound is 0                                \
     lower bound above upper                         \
     upper bound too big for the mask's lines        \
-    neither together with rise or fall on a line    \
+    rise, fall and neither together on a line       \
     operation above 9                               \
     bytes left over                                 \
     output too short (the place is what is needed)  \
@@ -50,7 +50,7 @@ const LENGTHS: [usize; ROWS] = [
     16,
     23,
     40,
-    44,
+    41,
     17,
     15,
     46,

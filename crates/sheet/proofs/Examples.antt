@@ -117,9 +117,13 @@ table =
     ∷ gives (sheetWith 1 (three 1 1 1)) Accepted
     ∷ gives (sheetWith 1 (three 1 2 1)) (Refused 8 2)
     ∷ gives (sheetWith 1 (three 1 1 0)) (Refused 8 2)
-    -- 9: neither with rise, neither with fall, on one line; on different lines it is none
-    ∷ gives (sheetWith 2 (three 1 0 1)) (Refused 9 3)
-    ∷ gives (sheetWith 2 (three 0 6 4)) (Refused 9 3)
+    -- 9: all three on one line, the lowest, the third, the highest; any two on a line, or all three on different lines, are none
+    ∷ gives (sheetWith 2 (three 1 1 1)) (Refused 9 3)
+    ∷ gives (sheetWith 2 (three 5 6 4)) (Refused 9 3)
+    ∷ gives (sheetWith 2 (three 0x80000000 0x80000000 0x80000000)) (Refused 9 3)
+    ∷ gives (sheetWith 2 (three 1 0 1)) Accepted
+    ∷ gives (sheetWith 2 (three 0 6 4)) Accepted
+    ∷ gives (sheetWith 2 (three 3 5 6)) Accepted
     ∷ gives (sheetWith 2 (three 1 2 4)) Accepted
     -- 10: the last operation, and bytes left over after it
     ∷ gives (sheetWith 3 (replicate 10 9 ++ (10 ∷ []))) (Refused 10 4)
@@ -145,7 +149,7 @@ table =
     ∷ gives (sheet (blank 0 term ∷ blank 10 term ∷ []) [] [] [] []) (Refused 3 18)
     ∷ gives (sheet (labelled 0 0x7F term ∷ labelled 1 0x7F term ∷ []) [] [] [] []) (Refused 5 1)
     ∷ gives (sheet [] (blank 0 (three 1 1 1) ∷ blank 1 (three 0 1 1) ∷ []) [] [] []) (Refused 19 23)
-    ∷ gives (sheet [] [] (blank 0 (three 0 0 0) ∷ blank 1 (three 1 0 1) ∷ []) [] []) (Refused 19 24)
+    ∷ gives (sheet [] [] (blank 0 (three 0 0 0) ∷ blank 1 (three 1 1 1) ∷ []) [] []) (Refused 19 24)
     ∷ gives (sheet [] [] [] (blank 0 sum ∷ blank 1 (replicate 11 10) ∷ []) []) (Refused 19 24)
     ∷ gives (sheet [] [] [] [] (blank 0 (state 0 0 0) ∷ blank 1 (state 0 16 0) ∷ [])) (Refused 19 27)
     -- a record's own fault before it, and a cut one behind it
@@ -163,16 +167,17 @@ pub examples : T (allHold table)
 unfolding labelled blank ending term sum three state sheet slots full gives same allHold table joined render verdict sectionsVerdict sectionVerdict countVerdict recordsVerdict recordFault among same-lists.same descriptionFault term-kind.fault range-kind.fault rangeFault edge-kind.fault sum-kind.fault state-kind.fault overLines allWithin u32At fieldBytes kindOf mostOf descriptionSize ones onesIn sheetWith recordWith onlySection
 examples = tt
 
--- the same of descriptions alone; P: lower 0, and mask 1 with 1..1 and 1..2
+-- the same of descriptions alone; P: lower 0, and mask 1 with 1..1 and 1..2; neither with rise, and all three
 pub descriptions :
     (descriptionFault 1 (three 0 1 1) ≡ 6)
     × (descriptionFault 1 (three 1 1 1) ≡ 0)
     × (descriptionFault 1 (three 1 2 1) ≡ 8)
-    × (descriptionFault 2 (three 1 0 1) ≡ 9)
+    × (descriptionFault 2 (three 1 0 1) ≡ 0)
+    × (descriptionFault 2 (three 1 1 1) ≡ 9)
     × (descriptionFault 3 (replicate 11 10) ≡ 10)
     × (descriptionFault 4 (state 0 0 2) ≡ 18)
 unfolding three state descriptionFault kindOf range-kind.fault rangeFault edge-kind.fault sum-kind.fault state-kind.fault allWithin overLines fieldBytes u32At ones onesIn
-descriptions = (refl, refl, refl, refl, refl, refl)
+descriptions = (refl, refl, refl, refl, refl, refl, refl)
 
 -- mask FFFFFFFF, 1..FFFFFFFF: 2^k - 1 is FFFFFFFF
 pub widest : descriptionFault 1 (three 1 0xFFFFFFFF 0xFFFFFFFF) ≡ 0

@@ -253,13 +253,14 @@ pub fn read_edge(words: &[u32; 8]) -> Option<(u32, u32, u32)> {
     let (mut rise, mut fall, mut neither) = (0, 0, 0);
     for line in 0..32 {
         let lut = half(words[7 - line / 4], line % 4 / 2);
-        // an event is asked for if its whole word is in the table
+        // an event is asked for if its whole word is in the table: the wishes of the other line alone do not fill that
+        // word, since they leave an event out
         let asked = |event: [u32; 2]| u32::from(lut & event[line % 2] == event[line % 2]) << line;
         rise |= asked(RISE);
         fall |= asked(FALL);
         neither |= asked(NEITHER);
     }
-    let accepted = neither & (rise | fall) == 0;
+    let accepted = rise & fall & neither == 0; // no table FFFF
     (accepted && edge_words(rise, fall, neither) == *words).then_some((rise, fall, neither))
 }
 

@@ -100,8 +100,9 @@ fn lift() -> Setup {
     s
 }
 
-/// The lift's set-up as revised: a line of the notice for each thing that can be said whatever sample is chosen, and
-/// that of a sum, where the library too shows the least pattern.
+/// The lift's set-up as revised: a line of the notice for each thing that can be said whatever sample is chosen; that
+/// of a sum, where the library too shows the least pattern; and that of an edge, whose samples the rules leave open:
+/// here no line moves.
 fn revised() -> Setup {
     let mut s = lift();
     s.sections[0].clear();
@@ -117,7 +118,7 @@ fn revised() -> Setup {
     s.sections[1].clear();
     range(&mut s, 1, "OVERSPD", 25, 31, 0x7C00_0000); // without two lines that cannot matter
     s.sections[2].clear();
-    edge(&mut s, 0, "DOORMOVE", 0x40, 0x30, 0);
+    edge(&mut s, 0, "DOORMOVE", 0x40, 0x30, 0x20); // the landing door also where it stays
     edge(&mut s, 1, "STANDS", 0x8_0000, 0, 0x8000_0000); // another label
     s.sections[3][8][1 + 8 + 1] = 0; // S2 CAPT asks for range 1 no more
     sum(&mut s, 4, 0, "S4 ANY", ["NOP", "NOP", "NOP", "NOP", "NOP", "NOP", "NOP", "NOP", "NOP", "NOP", "ANY"]);

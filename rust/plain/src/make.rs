@@ -291,10 +291,19 @@ pub fn range(random: &mut Random) -> [u32; 3] {
     [lower, upper.min(biggest), mask]
 }
 
-/// An accepted edge: rise, fall, neither.
+/// An accepted edge: rise, fall, neither. Each of the three has a mask of its own, or all have lines of the same mask;
+/// so few lines, too, ask for two events at once.
 pub fn edge(random: &mut Random) -> [u32; 3] {
-    let neither = random.mask();
-    [random.mask() & !neither, random.mask() & !neither, neither]
+    let [rise, fall, neither] = if random.one_in(2) {
+        [random.mask(), random.mask(), random.mask()]
+    } else {
+        let lines = random.mask();
+        [random.u32() & lines, random.u32() & lines, random.u32() & lines]
+    };
+    // a line that asks for all three leaves one of them out
+    let all = rise & fall & neither;
+    let (some, others) = (random.u32(), random.u32());
+    [rise & !(all & some), fall & !(all & !some & others), neither & !(all & !some & !others)]
 }
 
 /// The operations of an accepted sum.
@@ -496,9 +505,12 @@ fn damage_record(random: &mut Random, section: usize, before: u8, record: &mut [
             }
         }
         (_, 2) => {
-            let line = random.below(32);
-            record[17 + line / 8] |= 1 << (line % 8);
-            record[9 + 4 * random.below(2) + line / 8] |= 1 << (line % 8);
+            // a line that asks for all three; or one that leaves rise or fall out, which is no fault
+            let (line, left_out) = (random.below(32), random.pick(&[3, 3, 0, 1]));
+            for event in 0..3 {
+                let (byte, bit) = (&mut record[9 + 4 * event + line / 8], 1 << (line % 8));
+                *byte = if event == left_out { *byte & !bit } else { *byte | bit };
+            }
         }
         (_, 3) => record[9 + random.below(11)] = random.pick(&[10, 11, 255, 9, 128]),
         (3, 4) => {
@@ -592,7 +604,7 @@ fn damage_commands(random: &mut Random, commands: &mut Vec<[u8; 5]>) {
     let selects = selects(commands);
     let select = if selects.is_empty() { at } else { random.pick(&selects) };
     let word = random.below(commands.len());
-    match random.below(17) {
+    match random.below(18) {
         0 => commands[at][0] ^= 1,
         1 => commands[at][0] = random.u8(),
         2 => commands[at][random.below(5)] ^= 1 << random.below(8),
@@ -612,15 +624,16 @@ fn damage_commands(random: &mut Random, commands: &mut Vec<[u8; 5]>) {
         11 => repeat_chain(random, commands, &selects),
         // half words that some chain knows, or knew (0002 and 0004), in a place where another may be due
         12..=14 if commands[word][0] == 0x9F => {
-            let known: [u16; 19] = [
-                0xFFFF, 0xAAAA, 0x5555, 0x0000, 0x8000, 0xA5A5, 0xCC33, 0xAFAF, 0xF888, 0xFEE9, 0x000E, 0x000A, 0x000C,
-                0x0002, 0x0004, 0x0A0A, 0x33CC, 0x0020, 0x7FFF,
+            let known: [u16; 20] = [
+                0xFFFF, 0xAAAA, 0x5555, 0x0000, 0x8000, 0xA5A5, 0xCC33, 0xAFAF, 0xFF33, 0xF888, 0xFEE9, 0x000E, 0x000A,
+                0x000C, 0x0002, 0x0004, 0x0A0A, 0x33CC, 0x0020, 0x7FFF,
             ];
             let half = random.below(2);
             commands[word][1 + 2 * half..3 + 2 * half].copy_from_slice(&random.pick(&known).to_le_bytes());
         }
         // the first chain, a state's where there is one, goes last
         15 => commands.rotate_left(selects.get(1).copied().unwrap_or(0)),
+        16 => odd_edge(random, commands, &selects),
         _ => odd_range(random, commands, &selects),
     }
 }
@@ -675,6 +688,24 @@ fn odd_range(random: &mut Random, commands: &mut [[u8; 5]], selects: &[usize]) {
             }
         }
     }
+}
+
+/// Changes a table of an edge: asks for one event more, which is read unless a line then asks for all three; answers 1
+/// everywhere, as it would then; or answers otherwise at one address, which is read only now and then.
+fn odd_edge(random: &mut Random, commands: &mut [[u8; 5]], selects: &[usize]) {
+    let edges: Vec<usize> = selects.iter().copied().filter(|&at| matches!(commands[at][1], 0x34 | 0x35)).collect();
+    if edges.is_empty() {
+        return;
+    }
+    let (word, half) = (random.pick(&edges) + 1 + random.below(8), 1 + 2 * random.below(2));
+    let Some(command) = commands.get_mut(word).filter(|command| command[0] == 0x9F) else { return };
+    let table = u16::from_le_bytes([command[half], command[half + 1]]);
+    let table = match random.below(4) {
+        0 => table ^ 1 << random.below(16),
+        1 => 0xFFFF,
+        _ => table | random.pick(&[0x0A0A, 0x5050, 0xA5A5, 0x00CC, 0x3300, 0xCC33]),
+    };
+    command[half..half + 2].copy_from_slice(&table.to_le_bytes());
 }
 
 /// Bytes that look like commands here and there.

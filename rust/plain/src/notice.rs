@@ -106,21 +106,19 @@ pub fn telling_edge(old: (u32, u32, u32), new: (u32, u32, u32)) -> Option<(u32, 
     asked_by_one(old, new).or_else(|| asked_by_one(new, old))
 }
 
-/// An event that the one asks for and the other does not, on a line; elsewhere only what the other does not ask for.
+/// Two samples that hit the one edge and miss the other: on one line an event that the one asks for and the other does
+/// not, on every line an event that the other does not ask for. There always is such an event, for no line asks for all
+/// three; so this finds something as soon as the one asks for anything that the other does not.
 fn asked_by_one(one: (u32, u32, u32), other: (u32, u32, u32)) -> Option<(u32, u32)> {
-    // all lines stay 0, but those where the other asks for neither rise, which it does not ask for there
-    let (earlier, later) = (0, other.2);
-    let lowest = |lines: u32| lines & lines.wrapping_neg();
+    // the lowest line on which the one asks for something that the other does not
     let (rise, fall, neither) = (one.0 & !other.0, one.1 & !other.1, one.2 & !other.2);
-    if rise != 0 {
-        Some((earlier & !lowest(rise), later | lowest(rise)))
-    } else if fall != 0 {
-        Some((earlier | lowest(fall), later & !lowest(fall)))
-    } else if neither != 0 {
-        Some((earlier & !lowest(neither), later & !lowest(neither)))
-    } else {
-        None
-    }
+    let lines = rise | fall | neither;
+    let line = lines & lines.wrapping_neg();
+    // every other line stays 0; where the other asks for that, it rises; where the other asks for both, it falls
+    let rises = other.2 & !other.0 & !line | rise & line;
+    let falls = other.2 & other.0 & !line | fall & !rise & line;
+    // a line that falls is 1 earlier, one that rises is 1 later, and all else is 0
+    (line != 0).then_some((falls, rises))
 }
 
 // ---- the lines ----

@@ -54,7 +54,12 @@ fn lively(random: &mut Random, section: usize, states: u8) -> Vec<u8> {
         }
         2 => {
             let (rise, fall) = (few_lines(random), few_lines(random));
-            numbers([rise, fall, if random.one_in(2) { few_lines(random) & !(rise | fall) } else { 0 }])
+            let neither = match random.below(4) {
+                0 => few_lines(random),
+                1 => random.pick(&[rise, fall]), // a line that stays or rises, or stays or falls
+                _ => 0,
+            };
+            numbers([rise, fall, neither & !(rise & fall)])
         }
         3 => lively_sum(random),
         4 => lively_state(random, states),

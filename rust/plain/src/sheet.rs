@@ -100,8 +100,9 @@ pub(crate) fn description_fault(section: usize, description: &[u8]) -> Option<u8
             }
         }
         2 => {
+            // a line that asks for all three would hit on every two samples
             let (rise, fall, neither) = three(description);
-            (neither & (rise | fall) != 0).then_some(9)
+            (rise & fall & neither != 0).then_some(9)
         }
         3 => description.iter().any(|&operation| operation > 9).then_some(10),
         4 => {

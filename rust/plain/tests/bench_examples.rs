@@ -1,6 +1,7 @@
 //! The bench examples of the rules, those marked P and the others, on the plain implementation.
 use plain::{check, compile, gather, notice, notice_agrees, read, scan_telling_sum, section, Refusal};
-use plain::{edge_words, range_hit, range_words, run_range, state_word, sum_words, telling_sum, term_hit, term_words};
+use plain::{edge_hit, range_hit, run_edge, run_range, telling_sum, term_hit};
+use plain::{edge_words, range_words, state_word, sum_words, term_words};
 
 const LABEL: &[u8; 8] = b"LABEL   ";
 
@@ -39,6 +40,10 @@ fn sheet(sections: [&[Vec<u8>]; 5]) -> Vec<u8> {
 
 fn range_sheet(lower: u32, upper: u32, mask: u32) -> Vec<u8> {
     sheet([&[], &[record(0, LABEL, &[lower, upper, mask])], &[], &[], &[]])
+}
+
+fn edge_sheet(edge: [u32; 3]) -> Vec<u8> {
+    sheet([&[], &[], &[record(0, LABEL, &edge)], &[], &[]])
 }
 
 fn sum_sheet(sums: &[Vec<u8>]) -> Vec<u8> {
@@ -107,6 +112,76 @@ fn two_ranges_that_hit_alike() {
 fn edge_words_of_the_bench() {
     assert_eq!(edge_words(1, 0, 0), [0, 0, 0, 0, 0, 0, 0, 0x00000A0A]);
     assert_eq!(edge_words(1 << 31, 0, 0), [0x00CC0000, 0, 0, 0, 0, 0, 0, 0]);
+}
+
+/// The commands of the edge in slot 0 with this table for lines 0 and 1, and no other.
+fn edge_stream(table: u32) -> Vec<u8> {
+    [command(0x9E, 0x34), command(0x9F, 0).repeat(7), command(0x9F, table)].concat()
+}
+
+/// Neither together with rise or fall on a line: the table by what it means, and by the events' tables of the rules.
+#[test]
+fn lines_that_stay_or_rise() {
+    for (edge, table, events) in [
+        ([1, 0, 1], 0xAFAF, 0x0A0A | 0xA5A5),                   // line 0: rise, neither
+        ([0, 1, 1], 0xF5F5, 0x5050 | 0xA5A5),                   // line 0: fall, neither
+        ([2, 0, 2], 0xCCFF, 0x00CC | 0xCC33),                   // line 1: rise, neither
+        ([0, 2, 2], 0xFF33, 0x3300 | 0xCC33),                   // line 1: fall, neither
+        ([1, 2, 3], 0xFFBF, 0x0A0A | 0xA5A5 | 0x3300 | 0xCC33), // line 0: rise, neither; line 1: fall, neither
+        ([2, 3, 1], 0xF7FD, 0x5050 | 0xA5A5 | 0x00CC | 0x3300), // line 0: fall, neither; line 1: rise, fall
+    ] {
+        // the later sample is on the two lowest inputs, the earlier one on the two above
+        let [rise, fall, neither] = edge;
+        let hit = |address: u32| edge_hit(rise, fall, neither, address >> 2, address & 3);
+        let meant = (0..16).fold(0, |table, address| table | u32::from(hit(address)) << address);
+        assert_eq!((meant, events), (table, table), "{edge:?}");
+        let words = [0, 0, 0, 0, 0, 0, 0, table];
+        assert_eq!(edge_words(rise, fall, neither), words, "{edge:?}");
+        assert!((0..16).all(|n| run_edge(&words, n >> 2, n & 3) == Ok(hit(n))), "{edge:?}");
+        // lines 30 and 31 are the upper half of the first word
+        assert_eq!(edge_words(rise << 30, fall << 30, neither << 30), [table << 16, 0, 0, 0, 0, 0, 0, 0], "{edge:?}");
+        let (mut out, mut back) = ([0; 45], [0; 26]);
+        assert_eq!(compile(&edge_sheet(edge), &mut out), Ok(45));
+        assert_eq!(out, edge_stream(table)[..], "{edge:?}");
+        assert_eq!(read(&out, &mut back), Ok(26));
+        assert_eq!(back, sheet([&[], &[], &[record(0, b"E00     ", &edge)], &[], &[]])[..], "{edge:?}");
+    }
+}
+
+#[test]
+fn edges_accepted_and_refused() {
+    for line in 0..32 {
+        for wish in 0..8 {
+            let edge = [wish & 1, wish >> 1 & 1, wish >> 2].map(|asked| asked << line);
+            let want = if wish == 7 { refusal(9, 3) } else { Ok(()) };
+            assert_eq!(check(&edge_sheet(edge)), want, "line {line}: {edge:X?}");
+            // and where every other line stays or rises
+            let others = !(1 << line);
+            let among = [edge[0] | others, edge[1], edge[2] | others];
+            assert_eq!(check(&edge_sheet(among)), want, "line {line}: {among:X?}");
+        }
+    }
+    assert_eq!(check(&edge_sheet([u32::MAX, 0, u32::MAX])), Ok(()));
+    assert_eq!(check(&edge_sheet([u32::MAX; 3])), refusal(9, 3));
+    // FFFF is what all three would be, on whichever line; the others come of no wishes at all
+    let mut out = [0x77; 26];
+    for table in [0xFFFF, 0xAFAE, 0xAFBF, 0xFFFE, 0x7FFF, 0xEFEF] {
+        assert_eq!(read(&edge_stream(table), &mut out), refusal(16, 0), "{table:04X}");
+    }
+    assert_eq!(out, [0x77; 26]);
+}
+
+#[test]
+fn edges_in_a_notice() {
+    let altered = |old, new| noticed(&edge_sheet(old), &edge_sheet(new));
+    assert_eq!(altered([0, 0, 1], [1, 0, 1]), "EDGE 00 ALTR 00000000 00000001\n", "stays; stays or rises");
+    assert_eq!(altered([0, 0, 1], [0, 1, 1]), "EDGE 00 ALTR 00000001 00000000\n", "stays; stays or falls");
+    assert_eq!(altered([1, 0, 1], [1, 0, 0]), "EDGE 00 ALTR 00000000 00000000\n", "stays or rises; rises");
+    assert_eq!(altered([1, 0, 1], [1, 1, 0]), "EDGE 00 ALTR 00000000 00000000\n", "does not fall; does not stay");
+    // on every other line the new one asks for all but a fall, so they fall
+    let all = u32::MAX;
+    assert_eq!(altered([all, 0, all], [all - 1, 0, all]), "EDGE 00 ALTR FFFFFFFE 00000001\n");
+    assert_eq!(altered([1, 0, 1], [1, 0, 1]), "");
 }
 
 #[test]
@@ -452,7 +527,8 @@ fn first_fault_wins() {
         bad[8] = byte;
         assert_eq!(check(&sheet([&[bad], &[], &[], &[], &[]])), refusal(5, 1));
     }
-    assert_eq!(check(&sheet([&[], &[], &[record(0, LABEL, &[1, 2, 2])], &[], &[]])), refusal(9, 3));
+    assert_eq!(check(&edge_sheet([3, 2, 2])), refusal(9, 3));
+    assert_eq!(check(&edge_sheet([1, 2, 2])), Ok(()));
     let mut sum = record(47, LABEL, &[]);
     sum.extend([9, 9, 9, 9, 9, 9, 9, 9, 9, 9, 10]);
     assert_eq!(check(&sheet([&[], &[], &[], &[sum], &[]])), refusal(10, 4));

@@ -44,6 +44,17 @@ fn examples_are_as_made() {
     );
 }
 
+/// The landing door is line 5. The revised edge asks for it to fall or to stay: two samples in which no line moves.
+#[test]
+fn the_revised_edge_is_told_apart() {
+    let (lift, revised, notice) = (stored("lift.sheet"), stored("lift-revised.sheet"), stored("lift-revised.notice"));
+    let text = String::from_utf8_lossy(&notice);
+    assert!(text.contains("\nEDGE 00 ALTR 00000000 00000000\nEDGE 01 NAME\n"), "{text}");
+    assert_eq!(plain::notice_agrees(&lift, &revised, &notice, plain::scan_telling_sum), Ok(()));
+    let edge = |sheet: &[u8]| words(&sheet[plain::section(sheet, 2).1 + 9..][..12]);
+    assert_eq!((edge(&lift), edge(&revised)), (vec![0x40, 0x30, 0], vec![0x40, 0x30, 0x20]));
+}
+
 fn words(bytes: &[u8]) -> Vec<u32> {
     assert_eq!(bytes.len() % 4, 0);
     bytes.chunks(4).map(|four| u32::from_le_bytes(four.try_into().expect("four bytes"))).collect()

@@ -125,9 +125,11 @@ fn nineteen_comes_before_the_faults_of_a_description() {
     }
     for (label, number) in [("TWO", 9), ("ONE", 19)] {
         let mut edges = records(2, &["ONE", label]);
-        edges[1][9] = 1; // rise and neither
-        edges[1][17] = 1;
-        assert_eq!(check(&sheet(2, edges)), refusal(number, place(2, 1)));
+        [9, 13, 17].iter().for_each(|&event| edges[1][event] = 1); // rise, fall and neither
+        assert_eq!(check(&sheet(2, edges.clone())), refusal(number, place(2, 1)));
+        // without the fall there is nothing wrong beside the label
+        edges[1][13] = 0;
+        assert_eq!(check(&sheet(2, edges)), if number == 19 { refusal(19, place(2, 1)) } else { Ok(()) });
     }
 }
 

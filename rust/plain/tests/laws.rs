@@ -117,28 +117,107 @@ fn terms_are_told_apart_by_the_least_sample() {
     }
 }
 
+/// Rise, fall, neither.
+type Edge = (u32, u32, u32);
+
+/// What a line may ask for is a number: 1 for rise, 2 for fall, 4 for neither, added up. All are accepted but 7.
+const WISHES: [u32; 7] = [0, 1, 2, 3, 4, 5, 6];
+
+/// The wishes that leave one event out: there is but one way to miss.
+const TWO_WISHES: [u32; 3] = [3, 5, 6];
+
+/// The edge with this wish on one line.
+fn with_wish(edge: Edge, line: usize, wish: u32) -> Edge {
+    let set = |lines: u32, event: u32| lines & !(1 << line) | (wish >> event & 1) << line;
+    (set(edge.0, 0), set(edge.1, 1), set(edge.2, 2))
+}
+
+/// An edge with one of these wishes on each of the 32 lines.
+fn edge_of(random: &mut Random, wishes: &[u32]) -> Edge {
+    (0..32).fold((0, 0, 0), |edge, line| with_wish(edge, line, random.pick(wishes)))
+}
+
+/// Every accepted edge that asks on lines 0 and 1 alone: 7 x 7.
+fn edges_of_two_lines() -> Vec<Edge> {
+    let edge = |lower, upper| with_wish(with_wish((0, 0, 0), 0, lower), 1, upper);
+    WISHES.iter().flat_map(|&lower| WISHES.map(|upper| edge(lower, upper))).collect()
+}
+
+fn hits((rise, fall, neither): Edge, earlier: u32, later: u32) -> bool {
+    edge_hit(rise, fall, neither, earlier, later)
+}
+
+/// Whether two edges are told apart, either way round: by two samples on which one hits and the other misses, and
+/// exactly if their words differ.
+fn edges_are_told_apart(old: Edge, new: Edge) -> bool {
+    let told = telling_edge(old, new);
+    for (earlier, later) in told.into_iter().chain(telling_edge(new, old)) {
+        assert_ne!(hits(old, earlier, later), hits(new, earlier, later), "{old:X?} {new:X?} {earlier:X} {later:X}");
+    }
+    assert_eq!(told.is_some(), telling_edge(new, old).is_some(), "{old:X?} {new:X?}");
+    let words = |(rise, fall, neither)| edge_words(rise, fall, neither);
+    assert_eq!(told.is_some(), words(old) != words(new), "{old:X?} {new:X?}");
+    told.is_some()
+}
+
 #[test]
 fn edges_are_told_apart_exactly_when_some_pair_does() {
-    // the wishes of two lines: 5 x 5 for each edge
-    let wishes = [(0, 0, 0), (1, 0, 0), (0, 1, 0), (1, 1, 0), (0, 0, 1)];
-    let all: Vec<(u32, u32, u32)> = wishes
-        .iter()
-        .flat_map(|a| wishes.iter().map(|b| (a.0 | b.0 << 1, a.1 | b.1 << 1, a.2 | b.2 << 1)).collect::<Vec<_>>())
-        .collect();
+    let all = edges_of_two_lines();
+    let mut told = 0;
     for &old in &all {
         for &new in &all {
-            let hit = |d: (u32, u32, u32), pair: u32| edge_hit(d.0, d.1, d.2, pair >> 2, pair & 3);
             // lines 2 to 31 ask for nothing, so what they do does not matter
-            let some = (0..16).any(|pair| hit(old, pair) != hit(new, pair));
-            let told = telling_edge(old, new);
-            assert_eq!(told.is_some(), some);
-            assert_eq!(some, edge_words(old.0, old.1, old.2) != edge_words(new.0, new.1, new.2));
-            if let Some((earlier, later)) = told {
-                let hit = |d: (u32, u32, u32)| edge_hit(d.0, d.1, d.2, earlier, later);
-                assert_ne!(hit(old), hit(new));
+            let some = (0..16).any(|pair| hits(old, pair >> 2, pair & 3) != hits(new, pair >> 2, pair & 3));
+            assert_eq!(edges_are_told_apart(old, new), some, "{old:X?} {new:X?}");
+            // at other lines: of one table, of one word, far apart
+            for lines in [0xC000_0000, 0x0000_0A00, 0x8000_0001] {
+                let spread = |edge: Edge| (scatter(edge.0, lines), scatter(edge.1, lines), scatter(edge.2, lines));
+                assert_eq!(edges_are_told_apart(spread(old), spread(new)), some, "{old:X?} {new:X?}");
+            }
+            told += usize::from(some);
+        }
+    }
+    // any two that are not the same
+    assert_eq!((all.len(), told), (49, 49 * 48));
+}
+
+/// On each line each wish becomes each other, whatever the other 31 lines ask for.
+#[test]
+fn edges_are_told_apart_by_every_line() {
+    let mut random = Random(13);
+    let mut told = 0;
+    for all in 0..20 * 32 * 49 {
+        let (line, before, after) = (all / 49 % 32, WISHES[all / 7 % 7], WISHES[all % 7]);
+        let others = edge_of(&mut random, if all % 2 == 0 { &WISHES } else { &TWO_WISHES });
+        let (old, new) = (with_wish(others, line, before), with_wish(others, line, after));
+        assert_eq!(edges_are_told_apart(old, new), before != after, "{old:X?} {new:X?}");
+        told += usize::from(before != after);
+    }
+    assert_eq!(told, 20 * 32 * 42);
+}
+
+/// Two edges of all 32 lines are told apart by what is given, unless they are the same.
+#[test]
+fn any_two_edges_are_told_apart() {
+    let mut random = Random(14);
+    let mut made = [0; 8]; // how often a line of a random edge has each wish
+    for round in 0..60_000 {
+        let [old, new] = [(); 2].map(|()| match round % 3 {
+            0 => make::edge(&mut random).into(),
+            1 => edge_of(&mut random, &WISHES),
+            _ => edge_of(&mut random, &TWO_WISHES),
+        });
+        assert_eq!(edges_are_told_apart(old, new), old != new);
+        assert!(!edges_are_told_apart(old, old));
+        if round % 3 == 0 {
+            for line in 0..32 {
+                let [rise, fall, neither] = [old.0, old.1, old.2].map(|lines| (lines >> line & 1) as usize);
+                made[rise + 2 * fall + 4 * neither] += 1;
             }
         }
     }
+    // of 640,000 lines each wish has many, and all three none
+    assert!(made[..7].iter().all(|&lines| lines > 40_000) && made[7] == 0, "{made:?}");
 }
 
 /// Both ways to tell two sums apart, and that the pattern found does so. Answers whether there was one.
@@ -225,23 +304,45 @@ fn reading_back_gives_what_writes_the_words() {
     for (lower, upper, mask) in [(0, 3, 3), (2, 1, 3), (0, 0, 0), (4, 3, 3)] {
         assert_eq!(read_range(&range_words(lower, upper, mask)), None);
     }
-    // every table: read exactly if some description writes it
-    let mut known = [0; 3];
+}
+
+#[test]
+fn a_table_is_read_exactly_if_some_description_writes_it() {
+    let mut known = [0; 2];
     for table in 0..=0xFFFF {
         let term = (0..256).any(|both| term_words(both & 15, both >> 4)[3] & 0xFFFF == table);
         assert_eq!(read_term(&[u32::MAX, u32::MAX, u32::MAX, 0xFFFF_0000 | table]).is_some(), term);
         known[0] += usize::from(term);
-        let edge = (0..64u32).any(|six| {
-            let [rise, fall, neither] = [six & 3, six >> 2 & 3, six >> 4];
-            neither & (rise | fall) == 0 && edge_words(rise, fall, neither)[7] == table
-        });
-        assert_eq!(read_edge(&[0, 0, 0, 0, 0, 0, 0, table]).is_some(), edge);
-        known[1] += usize::from(edge);
         let last = (0..10).any(|code| sum_words(&[0, 0, 0, 0, 0, 0, 0, 0, 0, 0, code])[0] == table);
         assert_eq!(read_sum(&[table, 0, 0, 0, 0, 0]).is_some(), last);
-        known[2] += usize::from(last);
+        known[1] += usize::from(last);
     }
-    assert_eq!(known, [81, 25, 10]);
+    assert_eq!(known, [81, 10]);
+}
+
+/// Every table, in the low and the high half of every word: read as its wishes if it has some, among whatever tables.
+#[test]
+fn an_edges_table_is_read_exactly_if_wishes_make_it() {
+    let mut random = Random(15);
+    // what a table means: at each address, whether one of its two lines shows what it asks for
+    let table = |edge| (0..16).fold(0, |table, n| table | u32::from(hits(edge, n >> 2, n & 3)) << n);
+    let all: std::collections::BTreeMap<u32, Edge> =
+        edges_of_two_lines().into_iter().map(|edge| (table(edge), edge)).collect();
+    assert_eq!((all.len(), all.get(&0xFFFF)), (49, None), "all different");
+    let mut read = [0; 16];
+    for (place, read) in read.iter_mut().enumerate() {
+        for table in 0..=0xFFFF {
+            let [rise, fall, neither] = make::edge(&mut random).map(|lines| lines & !(3 << (2 * place)));
+            let mut words = edge_words(rise, fall, neither);
+            words[7 - place / 2] |= table << (place % 2 * 16);
+            let at = |lines: u32| lines << (2 * place);
+            let want = all.get(&table).map(|edge| (rise | at(edge.0), fall | at(edge.1), neither | at(edge.2)));
+            let got = read_edge(&words);
+            assert_eq!(got, want, "table {table:04X} at {place}");
+            *read += usize::from(got.is_some());
+        }
+    }
+    assert_eq!(read, [49; 16]);
 }
 
 #[test]
@@ -302,4 +403,26 @@ fn notices_have_every_line() {
         }
     }
     assert!(met.is_empty(), "{met:?}");
+}
+
+/// Damage to an edge that asks for nothing: often a line that asks for all three, and often one that leaves one out.
+#[test]
+fn damaged_edges_are_refused_or_just_not() {
+    let mut random = Random(16);
+    let mut setup = Setup::default();
+    setup.sections[2].push([&[0][..], b"NOTHING ", &[0; 12]].concat());
+    let (mut refused, mut asked) = (0, [0; 2]); // with 9; accepted, and asking on a line for neither and rise, and fall
+    for _ in 0..20_000 {
+        let sheet = make::damaged_sheet(&mut random, &setup);
+        match check(&sheet) {
+            Err(refusal) => refused += usize::from(refusal.number == 9),
+            Ok(()) => {
+                let lines = |at: usize| u32::from_le_bytes(sheet[at..at + 4].try_into().expect("four bytes"));
+                let (rise, fall, neither) = (lines(12), lines(16), lines(20));
+                asked[0] += usize::from(neither & rise != 0);
+                asked[1] += usize::from(neither & fall != 0);
+            }
+        }
+    }
+    assert!(refused > 500 && asked.iter().all(|&times| times > 200), "{refused} {asked:?}");
 }

@@ -286,15 +286,17 @@ fn sources_by_their_slots() {
     }
 }
 
+/// An edge, and a programme that takes where it hits.
+fn edge(wishes: [u32; 3]) -> Setup {
+    let mut setup = Setup::default();
+    add(&mut setup, 2, 0, &numbers(&wishes));
+    add(&mut setup, 3, 2, &one_of([0, 0, B, 0, 0, 0, 0, 0]));
+    setup
+}
+
 /// The first sample is its own earlier word, so that only "neither" can hit.
 #[test]
 fn the_first_sample_has_none_before_it() {
-    let edge = |wishes: [u32; 3]| {
-        let mut setup = Setup::default();
-        add(&mut setup, 2, 0, &numbers(&wishes));
-        add(&mut setup, 3, 2, &one_of([0, 0, B, 0, 0, 0, 0, 0]));
-        setup
-    };
     let (rise, fall, neither) = (edge([1, 0, 0]), edge([0, 1, 0]), edge([0, 0, 1]));
     let taken = |setup: &Setup, earlier, samples: &[u32]| run_from(setup, Run { earlier, ..FRESH }, samples).0;
     for first in [0, 1] {
@@ -309,6 +311,39 @@ fn the_first_sample_has_none_before_it() {
     assert_eq!(taken(&rise, Some(0), &[1]), [1]);
     assert_eq!(taken(&neither, Some(0), &[1]), []);
     assert_eq!(taken(&fall, Some(1), &[0]), [0]);
+}
+
+/// Neither together with rise takes where the line does not fall, together with fall where it does not rise.
+#[test]
+fn a_line_that_stays_or_rises() {
+    let (stays_or_rises, stays_or_falls) = (edge([1, 0, 1]), edge([0, 1, 1]));
+    // the last digit has line 0: it stays at first, stays, falls, stays, rises, falls, stays, rises, stays
+    let samples = [0x11, 0x23, 0x30, 0x42, 0x55, 0x64, 0x74, 0x87, 0x97];
+    assert_eq!(run_of(&stays_or_rises, &samples).0, [0x11, 0x23, 0x42, 0x55, 0x74, 0x87, 0x97]);
+    assert_eq!(run_of(&stays_or_falls, &samples).0, [0x11, 0x23, 0x30, 0x42, 0x64, 0x74, 0x97]);
+    // what was handed on counts
+    let taken = |setup: &Setup, earlier, sample| run_from(setup, Run { earlier: Some(earlier), ..FRESH }, &[sample]).0;
+    assert_eq!((taken(&stays_or_rises, 0, 1), taken(&stays_or_rises, 1, 0)), (vec![1], vec![]));
+    assert_eq!((taken(&stays_or_falls, 0, 1), taken(&stays_or_falls, 1, 0)), (vec![], vec![0]));
+    // a fall is taken where another line does what is asked for it
+    let two = edge([3, 0, 1]);
+    assert_eq!((taken(&two, 1, 0), taken(&two, 1, 2), taken(&two, 3, 2)), (vec![], vec![2], vec![]));
+}
+
+/// On each line, each wish: taken are the samples on which the plain rule hits, with the one before.
+#[test]
+fn every_wish_takes_by_the_plain_rule() {
+    let mut random = Random(12);
+    for all in 0..32 * 7 {
+        let (line, wish) = (all / 7, all % 7);
+        let [rise, fall, neither] = [wish & 1, wish >> 1 & 1, wish >> 2].map(|asked| asked << line);
+        let samples: Vec<u32> = (0..40).map(|_| random.u32()).collect();
+        let before = samples[..1].iter().chain(&samples);
+        let hit = |&(&earlier, &later): &(&u32, &u32)| plain::edge_hit(rise, fall, neither, earlier, later);
+        let want: Vec<u32> = before.zip(&samples).filter(hit).map(|(_, &later)| later).collect();
+        assert_eq!(run_of(&edge([rise, fall, neither]), &samples).0, want, "line {line}, wish {wish}");
+        assert_eq!((want.is_empty(), want.len() < 40), (wish == 0, true), "some of them, and not all");
+    }
 }
 
 #[test]

@@ -29,5 +29,5 @@ fn compile_sends_what_the_second_program_sends() {
         cases += 1;
     }
     assert_eq!(at + 2, data.len(), "nothing follows the end mark");
-    assert_eq!(cases, 533);
+    assert_eq!(cases, 577);
 }
