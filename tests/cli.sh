@@ -441,7 +441,7 @@ reports() {
     lines_are old-new.notice
     "$voltamar" notice --report lift.sheet lift-revised.sheet >page
     lines_are lift-revised.notice
-    for line in 'Lines by sort: NAME 3, ALTR 3, WORD 2, NEW 3, GONE 3' "    old label 'MOVING  ', new label 'RIDING  '" \
+    for line in 'Lines by sort: NAME 3, ALTR 4, WORD 2, NEW 3, GONE 3' "    old label 'MOVING  ', new label 'RIDING  '" \
         'SUMS 08 ALTR 0400' '    sources that hit in it: RANG 00' \
         "    Altered: the state's number, else state or flags are others." "    old label 'STOPPED ', new label (no such slot)"; do
         expect "the report has no line '$line'" grep -qxF "$line" page

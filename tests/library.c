@@ -132,7 +132,8 @@ static void states(void) {
     expect(voltamar_check(sheet, 27, &place) == 0 && place == 0, "states: accepted");
 }
 
-/* A sheet with one edge, which asks on line 12 for these added up: 1 for rise, 2 for fall, 4 for neither. The record begins at 3. */
+/* A sheet with one edge, which asks on line 12 for these added up: 1 for rise, 2 for fall, 4 for neither. The record
+ * begins at 3. */
 static uint8_t one_edge(unsigned wishes, size_t *place) {
     uint8_t sheet[26] = {0, 0, 1, 0, 'E', 'D', 'G', 'E', ' ', ' ', ' ', ' '};
     for (unsigned event = 0; event < 3; event++) sheet[13 + 4 * event] = (wishes >> event & 1) << 4;

@@ -37,7 +37,8 @@ use Rattle.notice.specs.Text as text
 use Rattle.notice.specs.Findings.{sharedLines, slotLines}
 use Rattle.notice.specs.Notice.{linesFrom, sectionsLines, noticeLines, noticeText}
 
--- a sheet of these terms and ranges, one of these edges, one of these sums and states, and a record of a slot, a label and numbers
+-- a sheet of these terms and ranges, one of these edges, one of these sums and states, and a record of a slot, a label
+-- and numbers
 sheetOf : (terms ranges : List (List ℕ)) → List ℕ
 sheetOf terms ranges = render (terms ∷ ranges ∷ replicate (sections - 2) [])
 
@@ -132,8 +133,8 @@ pairs =
     -- 2..3 under mask 3 against 1..1 under mask 2
     ∷ pair (sheetOf [] (recordOf 0 left (2 ∷ 3 ∷ 3 ∷ []) ∷ [])) (sheetOf [] (recordOf 0 left (1 ∷ 1 ∷ 2 ∷ []) ∷ []))
     (line RANG (48 ∷ 48 ∷ []) WORD)
-    -- rise on line 0 goes, line 1 steady or rising in both: EDGE 00 ALTR 00000002 00000001; and steady or rising against steady
-    -- alone: EDGE 01 ALTR 00000000 00000001
+    -- rise on line 0 goes, line 1 is steady or rising in both: EDGE 00 ALTR 00000002 00000001; and steady or rising
+    -- against steady alone: EDGE 01 ALTR 00000000 00000001
     ∷ pair
     (edgesOf (recordOf 0 left (3 ∷ 0 ∷ 2 ∷ []) ∷ recordOf 1 right (1 ∷ 0 ∷ 1 ∷ []) ∷ []))
     (edgesOf (recordOf 0 left (2 ∷ 0 ∷ 2 ∷ []) ∷ recordOf 1 right (0 ∷ 0 ∷ 1 ∷ []) ∷ []))

@@ -1,5 +1,5 @@
--- Steady or rising, steady or falling: their tables, read back; how many tables two lines can have; and two such edges told
--- apart. All computed. Assumes nothing.
+-- Steady or rising, steady or falling: their tables, read back; how many tables two lines can have; and two such edges
+-- told apart. All computed. Assumes nothing.
 use Prim.Native.Nat.{ℕ, zero, suc}
 use mathlib.Core.Path.{_≡_, refl}
 use mathlib.Core.Bool.{Bool, true, false, cond, not, _&&_, _||_}
@@ -34,8 +34,8 @@ low rise fall neither word = record { rise = rise; fall = fall; neither = neithe
 pub right : Low → Bool
 right x = same (edgeWords (x .rise) (x .fall) (x .neither)) (0 ∷ 0 ∷ 0 ∷ 0 ∷ 0 ∷ 0 ∷ 0 ∷ x .word ∷ [])
 
--- steady or rising, steady or falling on the lower line of two; the same on the upper line; one on each line, and one beside
--- a fall; in the next table [P10, W13]
+-- steady or rising, steady or falling on the lower line of two; the same on the upper line; one on each line, and one
+-- beside a fall; in the next table [P10, W13]
 pub lows : List Low
 lows =
     low 1 0 1 0xAFAF

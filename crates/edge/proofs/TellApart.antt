@@ -114,7 +114,7 @@ module _ (a b : Edge) (p : Accepted a) (q : Accepted b) where
       each x y z Fall = y
       each x y z Neither = z
 
--- an accepted edge misses where every line does what it does not ask for: the samples that would show nothing of its own
+-- an accepted edge misses where every line does what it does not ask for
 pub misses : (d : Edge) → Accepted d → (earlier : ℕ) × ((later : ℕ) × (Fits (Samples earlier later) × (hitOf d earlier later ≡ false)))
 misses d p = (_, (_, (samples-fit d d p p Rise, b-misses d d p p Rise)))
 

@@ -117,7 +117,8 @@ table =
     ∷ gives (sheetWith 1 (three 1 1 1)) Accepted
     ∷ gives (sheetWith 1 (three 1 2 1)) (Refused 8 2)
     ∷ gives (sheetWith 1 (three 1 1 0)) (Refused 8 2)
-    -- 9: all three on one line, the lowest, the third, the highest; any two on a line, or all three on different lines, are none
+    -- 9: all three on one line, the lowest, the third, the highest; any two on a line, or all three on different lines,
+    -- are none
     ∷ gives (sheetWith 2 (three 1 1 1)) (Refused 9 3)
     ∷ gives (sheetWith 2 (three 5 6 4)) (Refused 9 3)
     ∷ gives (sheetWith 2 (three 0x80000000 0x80000000 0x80000000)) (Refused 9 3)

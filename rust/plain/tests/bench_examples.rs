@@ -119,7 +119,7 @@ fn edge_stream(table: u32) -> Vec<u8> {
     [command(0x9E, 0x34), command(0x9F, 0).repeat(7), command(0x9F, table)].concat()
 }
 
-/// Neither together with rise or fall on a line: the table by what it means, and by the events' tables of the rules.
+/// A line that stays or moves one way only: the table by what it means, and by the events' tables of the rules.
 #[test]
 fn lines_that_stay_or_rise() {
     for (edge, table, events) in [
