@@ -47,7 +47,7 @@ use Rattle.demands.proofs.EqualWords as words
 use Rattle.demands.proofs.NoticeBytes.{Shows}
 use Rattle.demands.proofs.Written.{lines-rendered, text-iff}
 use Rattle.demands.proofs.Sizes.{room-for-every-notice}
-use Rattle.demands.proofs.EdgeLines.{edges-told, edges-changed}
+use Rattle.demands.proofs.EdgeLines.{edges-told, descriptions-changed}
 use Rattle.demands.proofs.SumLines.{answerOn, shows-answer, same-answers, a-pattern, every-pattern}
 use Rattle.demands.proofs.AlterationLines as lines
 use Rattle.demands.proofs.NoticeLists as lists
@@ -78,7 +78,7 @@ equal-edge-words-iff-alike = words.edges-alike
 -- and two edges that differ are told apart by two samples [D3.12]
 pub edges-that-differ-are-told-apart : (d e : List ℕ) → AcceptedDescription EDGES d → AcceptedDescription EDGES e → (d ≡ e → ⊥)
     → (earlier : ℕ) × ((later : ℕ) × TellsApart (showsOf EDGES d) (showsOf EDGES e) (Samples earlier later))
-edges-that-differ-are-told-apart d e a b differ = edges-told d e (edges-changed d e a b differ)
+edges-that-differ-are-told-apart d e a b differ = edges-told d e (descriptions-changed EDGES d e a b differ)
 
 -- ranges with the same words behave alike [D3.3]
 pub ranges-that-share-words-hit-alike : (d e : List ℕ) → AcceptedDescription RANGES d → AcceptedDescription RANGES e

@@ -43,16 +43,16 @@ edges-told d e c = go (tellingOf EDGES d e) (telling-says EDGES (lit< tt) d e c)
     go Alike says = absurd (not-alike d e c says)
     go (Apart i) says = two-samples d e i says
 
--- in particular two that sheets can have
-pub edges-changed : (d e : List ℕ) → AcceptedDescription EDGES d → AcceptedDescription EDGES e → (d ≡ e → ⊥) → Changed (kindOf EDGES) d e
+-- two descriptions of one section that differ, each in some accepted sheet
+pub descriptions-changed : (k : ℕ) (d e : List ℕ) → AcceptedDescription k d → AcceptedDescription k e → (d ≡ e → ⊥) → Changed (kindOf k) d e
 unfolding descriptionSize descriptionFault
-edges-changed d e a b differ =
+descriptions-changed k d e a b differ =
     record {
-      old-bytes = description-bytes EDGES d a;
-      new-bytes = description-bytes EDGES e b;
-      old-whole = description-sound EDGES d a .0;
-      new-whole = description-sound EDGES e b .0;
-      old-faultless = description-sound EDGES d a .1;
-      new-faultless = description-sound EDGES e b .1;
+      old-bytes = description-bytes k d a;
+      new-bytes = description-bytes k e b;
+      old-whole = description-sound k d a .0;
+      new-whole = description-sound k e b .0;
+      old-faultless = description-sound k d a .1;
+      new-faultless = description-sound k e b .1;
       differ = differ;
     }

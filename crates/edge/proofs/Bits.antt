@@ -1,4 +1,5 @@
--- The plain rule and acceptance on all lines at once, by bit operations on whole numbers: one computed test of a line each. Assumes nothing.
+-- The plain rule and acceptance on all lines at once, by bit operations on whole numbers: one computed test of a line
+-- each. Assumes nothing.
 use Prim.Native.Nat.{ℕ, _^_, _<_}
 use mathlib.Core.Path.{_≡_, ap, ap₂, _∙_}
 use mathlib.Core.Bool.{Bool, true, false, not, _&&_, _||_, Bool·beq}

@@ -1,5 +1,5 @@
--- What tells two accepted descriptions apart: the samples given do, and where none are given the two are the same description.
--- Assumes nothing.
+-- What tells two accepted descriptions apart: the samples given do, and where none are given the two are the same
+-- description; and that an accepted one misses somewhere. Assumes nothing.
 use Prim.Native.Nat.{ℕ, _^_, _<_, _≤_}
 use mathlib.Core.Path.{_≡_, refl, sym, ap, _∙_}
 use mathlib.Core.Bool.{Bool, true, false, cond, not, true≢false}
@@ -52,7 +52,8 @@ module _ (d r n : ℕ) (hd : d < 2 ^ 32) (hr : r < 2 ^ 32) (hn : n < 2 ^ 32) whe
   later-lt Fall = after-lt
   later-lt Neither = after-lt
 
--- what an answer to "what does a ask for that b does not" says: the samples make a hit and b miss, or there is no such thing
+-- what an answer to "what does a ask for that b does not" says: the samples make a hit and b miss, or there is no such
+-- thing
 Tells : Edge → Edge → Telling → Type 0
 Tells a b Alike = (t : Event) → asked t a ≤ asked t b
 Tells a b (Apart i) = (hit a i ≡ true) × (hit b i ≡ false) × Fits i

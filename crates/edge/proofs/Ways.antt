@@ -1,5 +1,5 @@
--- The way there and back of an edge's description: its words are read as it is, and what is read has no fault and writes the words.
--- Assumes nothing.
+-- An edge's description as bytes: its words are read as it is, what is read has no fault and writes the words, and two
+-- that hit alike are the same. Assumes nothing.
 use Prim.Native.Nat.{ℕ, _<_, _^_}
 use mathlib.Core.Path.{_≡_, refl, sym, ap, _∙_}
 use mathlib.Core.Bool.{true, false}
