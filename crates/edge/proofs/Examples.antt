@@ -1,6 +1,6 @@
 -- Steady or rising, steady or falling: their tables, read back; how many tables two lines can have; and two such edges
 -- told apart. All computed. Assumes nothing.
-use Prim.Native.Nat.{ℕ, zero, suc}
+use Prim.Native.Nat.{ℕ}
 use mathlib.Core.Path.{_≡_, refl}
 use mathlib.Core.Bool.{Bool, true, false, cond, not, _&&_, _||_}
 use mathlib.Core.List.{List, [], _∷_, _++_}
@@ -11,7 +11,6 @@ use Rattle.lines.specs.Line.{overLines}
 use Rattle.lut.specs.Table.{down}
 use Rattle.lut.specs.declared.Input.the-variants.{Samples}
 use Rattle.lut.specs.declared.Telling.the-variants.{Apart}
-use Rattle.edge.specs.declared.Edge.{Edge}
 use Rattle.edge.specs.declared.ReadEdge.the-variants as ReadEdge
 use Rattle.edge.specs.Rule.{linesAccepted}
 use Rattle.edge.specs.Words.{pairTable, edgeWords}
