@@ -1,13 +1,13 @@
 //! The files of examples/: sample sheets and what the calls give for them, of the lift also for a recording.
-use crate::make::{self, Setup};
+use crate::make::{self, padded, Setup};
 use crate::sheet;
-use crate::{bench, notice, read, Run, LONGEST_NOTICE, LONGEST_SHEET, SECTIONS, SIZE};
+use crate::{bench, notice, read, Run, DESCRIPTION, LONGEST_NOTICE, LONGEST_SHEET, SECTIONS, SIZE};
 use std::fmt::Write;
 
 /// Adds a record to a section of a sheet in the making.
 fn add(setup: &mut Setup, section: usize, slot: u8, label: &str, description: &[u8]) {
     let mut record = vec![slot];
-    record.extend(format!("{label:<8}").bytes());
+    record.extend(padded(label));
     record.extend(description);
     assert_eq!(record.len(), SIZE[section], "{label}");
     setup.sections[section].push(record);
@@ -120,7 +120,7 @@ fn revised() -> Setup {
     s.sections[2].clear();
     edge(&mut s, 0, "DOORMOVE", 0x40, 0x30, 0x20); // the landing door also where it stays
     edge(&mut s, 1, "STANDS", 0x8_0000, 0, 0x8000_0000); // another label
-    s.sections[3][8][1 + 8 + 1] = 0; // S2 CAPT asks for range 1 no more
+    s.sections[3][8][DESCRIPTION + 1] = 0; // S2 CAPT asks for range 1 no more
     sum(&mut s, 4, 0, "S4 ANY", ["NOP", "NOP", "NOP", "NOP", "NOP", "NOP", "NOP", "NOP", "NOP", "NOP", "ANY"]);
     s.sections[4].truncate(1); // without state 3
     state(&mut s, 1, "RIDING", 1, 0, &[]); // another label
@@ -142,7 +142,8 @@ fn sheet_text(setup: &Setup) -> String {
         let _ = writeln!(text, "{at:>4}  {}: {}", NAME[section], records.len());
         at += 1;
         for record in records {
-            let (label, fields) = (String::from_utf8_lossy(&record[1..9]), fields_text(section, &record[9..]));
+            let label = String::from_utf8_lossy(&record[1..DESCRIPTION]);
+            let fields = fields_text(section, &record[DESCRIPTION..]);
             let _ = writeln!(text, "{at:>4}  slot {} \"{label}\"{fields}", record[0]);
             at += record.len();
         }
@@ -157,7 +158,8 @@ fn fields_text(section: usize, description: &[u8]) -> String {
         1 => numbers_text(&["lower", "upper", "mask"], description),
         2 => numbers_text(&["rise", "fall", "neither"], description),
         3 => sum_text(description),
-        _ => state_text(description),
+        4 => state_text(description),
+        _ => unreachable!("no such section"),
     }
 }
 

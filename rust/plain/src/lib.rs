@@ -15,13 +15,10 @@ pub use detect::{edge_hit, gather, range_hit, run_edge, run_range, run_sum, run_
 pub use detect::{edge_words, range_words, state_word, sum_words, term_words};
 pub use detect::{read_edge, read_range, read_state, read_sum, read_term};
 pub use notice::{least_telling_range, least_telling_term, telling_edge};
-pub use notice::{notice, notice_agrees, NoticeRefusal, TellSums};
-pub use sheet::{check, section, LONGEST_SHEET, MOST, SECTIONS, SIZE};
+pub use notice::{notice, notice_agrees, NoticeRefusal, TellSums, LONGEST_NOTICE};
+pub use sheet::{check, section, DESCRIPTION, LABEL, LONGEST_SHEET, MOST, SECTIONS, SIZE};
 pub use stream::{compile, read, LONGEST_STREAM};
 pub use sums::{scan_telling_sum, telling_sum};
-
-/// The longest notice: a line NAME and a line ALTR for every slot.
-pub const LONGEST_NOTICE: usize = 2412;
 
 /// A refusal: its number, and its place (for 12 the bytes needed, of the bench the words; for 17 the words needed; for
 /// 20 the most samples).

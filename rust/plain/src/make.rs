@@ -1,6 +1,6 @@
 //! Inputs to compare on: random sheets, sheets that are near one another, damaged sheets, damaged streams, chain words.
 use crate::sheet::description_fault;
-use crate::{compile, LONGEST_SHEET, LONGEST_STREAM, MOST, SECTIONS, SIZE};
+use crate::{compile, DESCRIPTION, LABEL, LONGEST_SHEET, LONGEST_STREAM, MOST, SECTIONS, SIZE};
 
 /// A small generator of random numbers (xorshift64*), so that no other crate is needed. The seed is not 0.
 pub struct Random(pub u64);
@@ -126,12 +126,12 @@ impl Setup {
                 self.give_label(section, which, label);
             }
             1 => {
-                self.sections[section][which].truncate(9);
+                self.sections[section][which].truncate(DESCRIPTION);
                 self.sections[section][which].extend(description(random, section));
             }
-            2 | 3 => nudge(random, section, &mut self.sections[section][which]),
+            2 | 3 => nudge(random, section, &mut self.sections[section][which][DESCRIPTION..]),
             4 => {
-                nudge(random, section, &mut self.sections[section][which]);
+                nudge(random, section, &mut self.sections[section][which][DESCRIPTION..]);
                 let label = self.free_label(random, section);
                 self.give_label(section, which, label);
             }
@@ -158,21 +158,21 @@ impl Setup {
         record
     }
 
-    fn label(&self, section: usize, which: usize) -> [u8; 8] {
-        self.sections[section][which][1..9].try_into().expect("eight bytes")
+    fn label(&self, section: usize, which: usize) -> Label {
+        self.sections[section][which][1..DESCRIPTION].try_into().expect("as many bytes as a label has")
     }
 
-    fn set_label(&mut self, section: usize, which: usize, label: [u8; 8]) {
-        self.sections[section][which][1..9].copy_from_slice(&label);
+    fn set_label(&mut self, section: usize, which: usize, label: Label) {
+        self.sections[section][which][1..DESCRIPTION].copy_from_slice(&label);
     }
 
     /// Whether no record of the section has this label.
-    fn is_free(&self, section: usize, label: [u8; 8]) -> bool {
-        self.sections[section].iter().all(|record| record[1..9] != label)
+    fn is_free(&self, section: usize, label: Label) -> bool {
+        self.sections[section].iter().all(|record| record[1..DESCRIPTION] != label)
     }
 
     /// Sets the label if no record of the section has it, and answers whether it did.
-    fn give_label(&mut self, section: usize, which: usize, label: [u8; 8]) -> bool {
+    fn give_label(&mut self, section: usize, which: usize, label: Label) -> bool {
         let free = self.is_free(section, label);
         if free {
             self.set_label(section, which, label);
@@ -182,11 +182,11 @@ impl Setup {
 
     /// A label that no record of the section has: any, or blank, or that of a record of another section, or one byte
     /// off some record's.
-    fn free_label(&self, random: &mut Random, section: usize) -> [u8; 8] {
+    fn free_label(&self, random: &mut Random, section: usize) -> Label {
         loop {
             let other = if random.one_in(2) { section } else { random.below(SECTIONS) };
             let label = match (random.below(32), self.sections[other].len()) {
-                (0, _) => *b"        ",
+                (0, _) => padded(""),
                 (1..=4, met @ 1..) => self.label(other, random.below(met)),
                 (5..=12, met @ 1..) => {
                     let label = self.label(other, random.below(met));
@@ -234,6 +234,13 @@ impl Setup {
     }
 }
 
+pub type Label = [u8; LABEL];
+
+/// A name with spaces behind it.
+pub fn padded(name: &str) -> Label {
+    format!("{name:<LABEL$}").into_bytes().try_into().expect("no name is longer than a label")
+}
+
 fn label_byte(random: &mut Random) -> u8 {
     match random.below(8) {
         0 => 0x20,
@@ -243,8 +250,8 @@ fn label_byte(random: &mut Random) -> u8 {
 }
 
 /// The label with another byte at one place.
-fn one_byte_off(random: &mut Random, mut label: [u8; 8]) -> [u8; 8] {
-    let byte = &mut label[random.below(8)];
+fn one_byte_off(random: &mut Random, mut label: Label) -> Label {
+    let byte = &mut label[random.below(LABEL)];
     let before = *byte;
     while *byte == before {
         *byte = label_byte(random);
@@ -263,7 +270,8 @@ pub fn description(random: &mut Random, section: usize) -> Vec<u8> {
         1 => numbers(&range(random)),
         2 => numbers(&edge(random)),
         3 => sum(random).to_vec(),
-        _ => state(random),
+        4 => state(random),
+        _ => unreachable!("no such section"),
     }
 }
 
@@ -384,34 +392,35 @@ fn state(random: &mut Random) -> Vec<u8> {
     state
 }
 
-/// Changes a record's description a little, and keeps it accepted. Many of the changes change no hit.
-fn nudge(random: &mut Random, section: usize, record: &mut [u8]) {
-    let before = record.to_vec();
+/// Changes a description a little, and keeps it accepted. Many of the changes change no hit.
+fn nudge(random: &mut Random, section: usize, description: &mut [u8]) {
+    let before = description.to_vec();
     let number = |at: usize| u32::from_le_bytes(before[at..at + 4].try_into().expect("four bytes"));
     match section {
         0 => {
-            let (target, mask) = (number(9), number(13));
+            let (target, mask) = (number(0), number(4));
             let (target, mask) = match random.below(3) {
                 0 => (target ^ random.u32() & !mask, mask),
                 1 => (target, mask ^ 1 << random.below(32)),
                 _ => (target ^ 1 << random.below(32), mask),
             };
-            record[9..].copy_from_slice(&numbers(&[target, mask]));
+            description.copy_from_slice(&numbers(&[target, mask]));
         }
-        1 => record[9..].copy_from_slice(&numbers(&near_range(random, [number(9), number(13), number(17)]))),
+        1 => description.copy_from_slice(&numbers(&near_range(random, [number(0), number(4), number(8)]))),
         2 => {
-            let at = 9 + random.below(12);
-            record[at] ^= 1 << random.below(8);
+            let at = random.below(12);
+            description[at] ^= 1 << random.below(8);
         }
-        3 => record[9 + random.below(11)] = random.below(10) as u8,
-        _ => match random.below(3) {
-            0 => record[9 + random.below(3)] ^= 1 << random.below(8),
-            1 => record[13] = random.below(16) as u8,
-            _ => record[14 + random.below(8)] ^= 1,
+        3 => description[random.below(11)] = random.below(10) as u8,
+        4 => match random.below(3) {
+            0 => description[random.below(3)] ^= 1 << random.below(8),
+            1 => description[4] = random.below(16) as u8,
+            _ => description[5 + random.below(8)] ^= 1,
         },
+        _ => unreachable!("no such section"),
     }
-    if description_fault(section, &record[9..]).is_some() {
-        record.copy_from_slice(&before);
+    if description_fault(section, description).is_some() {
+        description.copy_from_slice(&before);
     }
 }
 
@@ -455,7 +464,7 @@ pub fn damaged_sheet(random: &mut Random, setup: &Setup) -> Vec<u8> {
             let at = setup.count_at(section);
             sheet[at] = random.pick(&[sheet[at].wrapping_add(1), sheet[at].wrapping_sub(1), MOST[section] + 1, 255, 0]);
         }
-        4 => sheet.truncate(setup.count_at(4)), // a sheet from before there were states
+        4 => sheet.truncate(setup.count_at(SECTIONS - 1)), // a sheet from before there was the last section
         _ => {}
     }
     sheet
@@ -491,44 +500,57 @@ fn damage_record(random: &mut Random, section: usize, before: u8, record: &mut [
     match (random.below(6), section) {
         (0, _) => record[0] = MOST[section] + random.pick(&[0, 0, 1, 100]),
         (1, _) => record[0] = before,
-        (2, _) => record[1 + random.below(8)] = random.pick(&[0x1F, 0x7F, 0x00, 0xFF, 0x80]),
-        (_, 1) => {
-            let mask = u32::from_le_bytes(record[17..21].try_into().expect("four bytes"));
-            let past = (1u64 << mask.count_ones()) as u32;
-            match random.below(6) {
-                0 => record[9..13].fill(0),
-                1 => record[13..17].fill(0),
-                2 => record[13..17].copy_from_slice(&past.to_le_bytes()),
-                3 => record[17..21].fill(0),
-                4 => record[9..21].fill(0),
-                _ => record[9..13].copy_from_slice(&past.to_le_bytes()),
-            }
-        }
-        (_, 2) => {
-            // a line that asks for all three; or one that leaves rise or fall out, which is no fault
-            let (line, left_out) = (random.below(32), random.pick(&[3, 3, 0, 1]));
-            for event in 0..3 {
-                let (byte, bit) = (&mut record[9 + 4 * event + line / 8], 1 << (line % 8));
-                *byte = if event == left_out { *byte & !bit } else { *byte | bit };
-            }
-        }
-        (_, 3) => record[9 + random.below(11)] = random.pick(&[10, 11, 255, 9, 128]),
-        (3, 4) => {
-            let number: u32 = random.pick(&[0xF_FFFF, 0x10_0000, 0x10_0001, 0x100_0000, 0x8000_0000, u32::MAX]);
-            record[9..13].copy_from_slice(&number.to_le_bytes());
-        }
-        (4, 4) => record[13] = random.pick(&[15, 16, 17, 0x80, 255]),
-        (_, 4) => record[14 + random.below(8)] = random.pick(&[0, 1, 2, 3, 0x80, 255]),
-        _ => {
+        (2, _) => record[1 + random.below(LABEL)] = random.pick(&[0x1F, 0x7F, 0x00, 0xFF, 0x80]),
+        (_, 0) => {
+            // a term's description has no fault
             let at = random.below(record.len());
             record[at] = random.u8();
         }
+        (_, 1) => damage_range(random, &mut record[DESCRIPTION..]),
+        (_, 2) => damage_edge(random, &mut record[DESCRIPTION..]),
+        (_, 3) => record[DESCRIPTION + random.below(11)] = random.pick(&[10, 11, 255, 9, 128]),
+        (field, 4) => damage_state(random, field, &mut record[DESCRIPTION..]),
+        _ => unreachable!("no such section"),
+    }
+}
+
+fn damage_range(random: &mut Random, range: &mut [u8]) {
+    let mask = u32::from_le_bytes(range[8..].try_into().expect("four bytes"));
+    let past = ((1u64 << mask.count_ones()) as u32).to_le_bytes();
+    match random.below(6) {
+        0 => range[..4].fill(0),
+        1 => range[4..8].fill(0),
+        2 => range[4..8].copy_from_slice(&past),
+        3 => range[8..].fill(0),
+        4 => range.fill(0),
+        _ => range[..4].copy_from_slice(&past),
+    }
+}
+
+/// A line that asks for all three; or one that leaves rise or fall out, which is no fault.
+fn damage_edge(random: &mut Random, edge: &mut [u8]) {
+    let (line, left_out) = (random.below(32), random.pick(&[3, 3, 0, 1]));
+    for event in 0..3 {
+        let (byte, bit) = (&mut edge[4 * event + line / 8], 1 << (line % 8));
+        *byte = if event == left_out { *byte & !bit } else { *byte | bit };
+    }
+}
+
+/// The number (3), the else state (4) or a flag.
+fn damage_state(random: &mut Random, field: usize, state: &mut [u8]) {
+    match field {
+        3 => {
+            let number: u32 = random.pick(&[0xF_FFFF, 0x10_0000, 0x10_0001, 0x100_0000, 0x8000_0000, u32::MAX]);
+            state[..4].copy_from_slice(&number.to_le_bytes());
+        }
+        4 => state[4] = random.pick(&[15, 16, 17, 0x80, 255]),
+        _ => state[5 + random.below(8)] = random.pick(&[0, 1, 2, 3, 0x80, 255]),
     }
 }
 
 /// Bytes with no plan, but for counts that are mostly small.
 pub fn noise_sheet(random: &mut Random) -> Vec<u8> {
-    let most = random.pick(&[0, 1, 4, 5, 6, 20, 60, LONGEST_SHEET, LONGEST_SHEET + 12]);
+    let most = random.pick(&[0, 1, SECTIONS - 1, SECTIONS, SECTIONS + 1, 20, 60, LONGEST_SHEET, LONGEST_SHEET + 12]);
     let length = random.below(most + 1);
     let mut sheet = random.bytes(length);
     for byte in &mut sheet {
@@ -547,6 +569,9 @@ pub fn stream(sheet: &[u8]) -> Vec<u8> {
     out
 }
 
+/// What the reader's labels begin with.
+const LETTER: [&str; SECTIONS] = ["T", "R", "E", "S", "Q"];
+
 /// What reading the commands of an accepted sheet has to give: the sheet with labels of section and slot, and each
 /// target cut to its mask.
 pub fn read_back(sheet: &[u8]) -> Vec<u8> {
@@ -556,10 +581,10 @@ pub fn read_back(sheet: &[u8]) -> Vec<u8> {
         let count = usize::from(sheet[at]);
         at += 1;
         for record in sheet[at..at + count * size].chunks_exact_mut(size) {
-            let name = format!("{}{:02}", ["T", "R", "E", "S", "Q"][section], record[0]);
-            record[1..9].copy_from_slice(format!("{name:<8}").as_bytes());
+            let name = format!("{}{:02}", LETTER[section], record[0]);
+            record[1..DESCRIPTION].copy_from_slice(&padded(&name));
             if section == 0 {
-                for byte in 9..13 {
+                for byte in DESCRIPTION..DESCRIPTION + 4 {
                     record[byte] &= record[byte + 4];
                 }
             }

@@ -1,7 +1,13 @@
 //! The alteration notice: one that the rules allow, and the test of any other.
 use crate::detect::scatter;
-use crate::sheet::{parts, three, two, DESCRIPTION, SECTIONS, SIZE};
-use crate::{edge_hit, range_hit, run_sum, sum_words, telling_sum, term_hit, Refusal, LONGEST_NOTICE};
+use crate::sheet::{above, full, parts, three, two, DESCRIPTION, SECTIONS, SIZE};
+use crate::{edge_hit, range_hit, run_sum, sum_words, telling_sum, term_hit, Refusal};
+
+/// Every slot has a line NAME and a line ALTR.
+pub const LONGEST_NOTICE: usize = full(above(2 * "TERM 00 NAME\n".len(), SHOWN));
+
+/// What ALTR shows by section: a space and eight digits for a sample, four for the sources.
+const SHOWN: [usize; SECTIONS] = [9, 9, 18, 5, 0];
 
 /// A refused notice: the sheet that the refusal is of, or the bytes needed (12 is of neither).
 #[derive(Clone, Copy, Debug, PartialEq, Eq)]

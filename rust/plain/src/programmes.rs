@@ -1,6 +1,6 @@
 //! Inputs to compare the bench on: sheets whose runs move, samples, and runs to hand in.
 use crate::make::{Random, Setup};
-use crate::{Run, MOST_SAMPLES};
+use crate::{Run, DESCRIPTION, MOST_SAMPLES};
 
 /// An accepted sheet whose runs move among its first `states` states: those have most of their sums and records, the
 /// others few. Some sheets have most detectors, some few.
@@ -18,15 +18,18 @@ pub fn programme(random: &mut Random, states: u8) -> Setup {
     setup
 }
 
+/// Where a state's record has its number.
+const NUMBER: std::ops::Range<usize> = DESCRIPTION..DESCRIPTION + 4;
+
 /// A programme with every slot taken whose run does not end: no state has the flag, and the last one's number is more
 /// than the samples of a call.
 pub fn endless(random: &mut Random) -> Setup {
     let mut setup = Setup::random(random, 8);
     enliven(random, &mut setup, 16);
     for state in &mut setup.sections[4] {
-        state[21] = 0;
+        *state.last_mut().expect("a state's last byte is its last flag") = 0;
     }
-    setup.sections[4][15][9..13].copy_from_slice(&(MOST_SAMPLES as u32 + 1).to_le_bytes());
+    setup.sections[4][15][NUMBER].copy_from_slice(&(MOST_SAMPLES as u32 + 1).to_le_bytes());
     setup
 }
 
@@ -35,7 +38,7 @@ fn enliven(random: &mut Random, setup: &mut Setup, states: u8) {
     for (section, records) in setup.sections.iter_mut().enumerate() {
         for record in records {
             if !random.one_in(12) {
-                record.truncate(9);
+                record.truncate(DESCRIPTION);
                 record.extend(lively(random, section, states));
             }
         }
@@ -118,7 +121,7 @@ pub fn samples(random: &mut Random, count: usize) -> Vec<u32> {
 /// How often the hit sum of a state must match.
 pub fn number(setup: &Setup, state: u32) -> u32 {
     let record = setup.sections[4].iter().find(|record| u32::from(record[0]) == state);
-    record.map_or(1, |record| u32::from_le_bytes(record[9..13].try_into().expect("four bytes")).max(1))
+    record.map_or(1, |record| u32::from_le_bytes(record[NUMBER].try_into().expect("four bytes")).max(1))
 }
 
 /// A run that the programme takes: fresh, or any.

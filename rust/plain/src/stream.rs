@@ -1,10 +1,11 @@
 //! Sheet to commands and back.
-use crate::sheet::{parts, state, three, two, DESCRIPTION, LONGEST_SHEET, SECTIONS, SIZE};
+use crate::sheet::{full, parts, state, three, two, DESCRIPTION, LONGEST_SHEET, MOST, SECTIONS, SIZE};
 use crate::{edge_words, range_words, state_word, sum_words, term_words};
 use crate::{number_at, refused, Refusal};
 use crate::{read_edge, read_range, read_state, read_sum, read_term};
 
-pub const LONGEST_STREAM: usize = 2520;
+/// Every slot is taken.
+pub const LONGEST_STREAM: usize = full(ITEM);
 
 const SELECT: u8 = 0x9E;
 const WORD: u8 = 0x9F;
@@ -13,7 +14,8 @@ const WORD: u8 = 0x9F;
 const ITEM: [usize; SECTIONS] = [5 * 5, 2 * 17 * 5, 9 * 5, 7 * 5, 2 * 5];
 
 /// The sections by their addresses: the states go out first.
-const SENDING: [usize; SECTIONS] = [4, 0, 1, 2, 3];
+const SENDING: [usize; SECTIONS] = [STATES, 0, 1, 2, 3];
+const STATES: usize = 4;
 
 /// What the label of a record that is read begins with, before the slot's two digits.
 const LETTER: [u8; SECTIONS] = *b"TRESQ";
@@ -76,7 +78,7 @@ fn send(commands: &mut Commands, section: usize, slot: u32, description: &[u8]) 
             let operations = description.try_into().expect("a sum has eleven operations");
             commands.chain(0x40 + slot / 3 * 4 + slot % 3, &sum_words(operations));
         }
-        4 => {
+        STATES => {
             let (number, else_state, flags) = state(description);
             commands.chain(slot, &[state_word(number, else_state, flags)]);
         }
@@ -114,7 +116,7 @@ impl Cursor<'_> {
 /// Section and slot of an address that an item may start with.
 fn item_at(address: u32) -> Option<(usize, u8)> {
     match address {
-        0x00..=0x0F => Some((4, address as u8)),
+        0x00..=0x0F => Some((STATES, address as u8)),
         0x20..=0x29 => Some((0, address as u8 - 0x20)),
         0x30 | 0x32 => Some((1, (address as u8 - 0x30) / 2)),
         0x34 | 0x35 => Some((2, address as u8 - 0x34)),
@@ -152,8 +154,9 @@ impl Growing {
     fn head(&mut self, section: usize, slot: u8) {
         self.go_to(section);
         self.bytes[self.count_at] += 1;
-        let (tens, ones) = (b'0' + slot / 10, b'0' + slot % 10);
-        self.put(&[slot, LETTER[section], tens, ones, b' ', b' ', b' ', b' ', b' ']);
+        let mut head = [b' '; DESCRIPTION];
+        head[..4].copy_from_slice(&[slot, LETTER[section], b'0' + slot / 10, b'0' + slot % 10]);
+        self.put(&head);
     }
 
     fn numbers(&mut self, numbers: &[u32]) {
@@ -165,14 +168,14 @@ impl Growing {
 
 /// The states met, slot and word: they come first in the stream and stand last on the sheet.
 struct States {
-    met: [(u8, u32); 16],
+    met: [(u8, u32); MOST[STATES] as usize],
     count: usize,
 }
 
 pub fn read(stream: &[u8], out: &mut [u8]) -> Result<usize, Refusal> {
     let mut cursor = Cursor { stream, at: 0 };
     let mut sheet = Growing::new();
-    let mut states = States { met: [(0, 0); 16], count: 0 };
+    let mut states = States { met: [(0, 0); MOST[STATES] as usize], count: 0 };
     let mut least = 0; // the least address that may come next
     while cursor.at < stream.len() {
         let start = cursor.at;
@@ -180,7 +183,7 @@ pub fn read(stream: &[u8], out: &mut [u8]) -> Result<usize, Refusal> {
         let Some((section, slot)) = item_at(address).filter(|_| address >= least) else { return refused(15, start) };
         cursor.at += 5;
         least = address + 1;
-        if section == 4 {
+        if section == STATES {
             let mut word = [0];
             cursor.words(&mut word)?;
             states.met[states.count] = (slot, word[0]);
@@ -191,12 +194,12 @@ pub fn read(stream: &[u8], out: &mut [u8]) -> Result<usize, Refusal> {
     }
     for &(slot, word) in &states.met[..states.count] {
         let (number, else_state, flags) = read_state(word);
-        sheet.head(4, slot);
+        sheet.head(STATES, slot);
         sheet.numbers(&[number]);
         sheet.put(&[else_state]);
         sheet.put(&flags);
     }
-    sheet.go_to(4);
+    sheet.go_to(SECTIONS - 1);
     if out.len() < sheet.length {
         return refused(12, sheet.length);
     }

@@ -1,24 +1,30 @@
 //! The bench examples of the rules, those marked P and the others, on the plain implementation.
+use plain::make::{padded, Setup};
 use plain::{check, compile, gather, notice, notice_agrees, read, scan_telling_sum, section, Refusal};
 use plain::{edge_hit, range_hit, run_edge, run_range, telling_sum, term_hit};
 use plain::{edge_words, range_words, state_word, sum_words, term_words};
+use plain::{DESCRIPTION, LABEL, LONGEST_NOTICE, LONGEST_SHEET, LONGEST_STREAM, MOST, SECTIONS, SIZE};
 
-const LABEL: &[u8; 8] = b"LABEL   ";
+const TERMS: usize = 0;
+const RANGES: usize = 1;
+const EDGES: usize = 2;
+const SUMS: usize = 3;
+const STATES: usize = 4;
 
 fn refusal<T>(number: u8, place: usize) -> Result<T, Refusal> {
     Err(Refusal { number, place })
 }
 
-fn record(slot: u8, label: &[u8; 8], numbers: &[u32]) -> Vec<u8> {
+fn record(slot: u8, label: &str, numbers: &[u32]) -> Vec<u8> {
     let mut record = vec![slot];
-    record.extend(label);
+    record.extend(padded(label));
     record.extend(numbers.iter().flat_map(|n| n.to_le_bytes()));
     record
 }
 
 /// A label for each slot, where a section has several records.
-fn label(slot: u8) -> [u8; 8] {
-    format!("LABEL {slot:02}").into_bytes().try_into().expect("eight bytes")
+fn label(slot: u8) -> String {
+    format!("LABEL {slot:02}")
 }
 
 /// The flags by their bits, the lowest first.
@@ -34,24 +40,39 @@ fn sum(slot: u8, operations: [u8; 11]) -> Vec<u8> {
     [record(slot, &label(slot), &[]), operations.to_vec()].concat()
 }
 
-fn sheet(sections: [&[Vec<u8>]; 5]) -> Vec<u8> {
-    sections.iter().flat_map(|records| [vec![records.len() as u8], records.concat()].concat()).collect()
+/// A sheet with the records of these sections, and none of the others.
+fn sheet<const N: usize>(sections: [(usize, Vec<Vec<u8>>); N]) -> Vec<u8> {
+    let mut setup = Setup::default();
+    for (section, records) in sections {
+        setup.sections[section] = records;
+    }
+    setup.sheet()
+}
+
+/// Where a record begins on a sheet that has those of one section alone.
+fn place(section: usize, which: usize) -> usize {
+    section + 1 + which * SIZE[section]
+}
+
+/// How long such a sheet is.
+fn length(section: usize, records: usize) -> usize {
+    SECTIONS + records * SIZE[section]
 }
 
 fn range_sheet(lower: u32, upper: u32, mask: u32) -> Vec<u8> {
-    sheet([&[], &[record(0, LABEL, &[lower, upper, mask])], &[], &[], &[]])
+    sheet([(RANGES, vec![record(0, "LABEL", &[lower, upper, mask])])])
 }
 
 fn edge_sheet(edge: [u32; 3]) -> Vec<u8> {
-    sheet([&[], &[], &[record(0, LABEL, &edge)], &[], &[]])
+    sheet([(EDGES, vec![record(0, "LABEL", &edge)])])
 }
 
 fn sum_sheet(sums: &[Vec<u8>]) -> Vec<u8> {
-    sheet([&[], &[], &[], sums, &[]])
+    sheet([(SUMS, sums.to_vec())])
 }
 
 fn state_sheet(states: &[Vec<u8>]) -> Vec<u8> {
-    sheet([&[], &[], &[], &[], states])
+    sheet([(STATES, states.to_vec())])
 }
 
 fn command(opcode: u8, number: u32) -> Vec<u8> {
@@ -59,7 +80,7 @@ fn command(opcode: u8, number: u32) -> Vec<u8> {
 }
 
 fn noticed(old: &[u8], new: &[u8]) -> String {
-    let mut out = [0; 2412];
+    let mut out = [0; LONGEST_NOTICE];
     let length = notice(old, new, &mut out).expect("two accepted sheets and room");
     notice_agrees(old, new, &out[..length], scan_telling_sum).expect("its own notice agrees");
     String::from_utf8(out[..length].to_vec()).expect("plain letters")
@@ -94,12 +115,12 @@ fn gathering() {
 
 #[test]
 fn ranges_accepted_and_refused() {
-    assert_eq!(check(&range_sheet(0, 1, 1)), refusal(6, 2));
-    assert_eq!(check(&range_sheet(0, 0, 0)), refusal(6, 2));
-    assert_eq!(check(&range_sheet(2, 1, 3)), refusal(7, 2));
+    assert_eq!(check(&range_sheet(0, 1, 1)), refusal(6, place(RANGES, 0)));
+    assert_eq!(check(&range_sheet(0, 0, 0)), refusal(6, place(RANGES, 0)));
+    assert_eq!(check(&range_sheet(2, 1, 3)), refusal(7, place(RANGES, 0)));
     assert_eq!(check(&range_sheet(1, 1, 1)), Ok(()));
-    assert_eq!(check(&range_sheet(1, 2, 1)), refusal(8, 2));
-    assert_eq!(check(&range_sheet(1, 1, 0)), refusal(8, 2));
+    assert_eq!(check(&range_sheet(1, 2, 1)), refusal(8, place(RANGES, 0)));
+    assert_eq!(check(&range_sheet(1, 1, 0)), refusal(8, place(RANGES, 0)));
     assert_eq!(check(&range_sheet(1, 0xFFFFFFFF, 0xFFFFFFFF)), Ok(()));
 }
 
@@ -140,11 +161,11 @@ fn lines_that_stay_or_rise() {
         assert!((0..16).all(|n| run_edge(&words, n >> 2, n & 3) == Ok(hit(n))), "{edge:?}");
         // lines 30 and 31 are the upper half of the first word
         assert_eq!(edge_words(rise << 30, fall << 30, neither << 30), [table << 16, 0, 0, 0, 0, 0, 0, 0], "{edge:?}");
-        let (mut out, mut back) = ([0; 45], [0; 26]);
+        let (mut out, mut back) = ([0; 45], vec![0; length(EDGES, 1)]);
         assert_eq!(compile(&edge_sheet(edge), &mut out), Ok(45));
         assert_eq!(out, edge_stream(table)[..], "{edge:?}");
-        assert_eq!(read(&out, &mut back), Ok(26));
-        assert_eq!(back, sheet([&[], &[], &[record(0, b"E00     ", &edge)], &[], &[]])[..], "{edge:?}");
+        assert_eq!(read(&out, &mut back), Ok(back.len()));
+        assert_eq!(back, sheet([(EDGES, vec![record(0, "E00", &edge)])]), "{edge:?}");
     }
 }
 
@@ -153,7 +174,7 @@ fn edges_accepted_and_refused() {
     for line in 0..32 {
         for wish in 0..8 {
             let edge = [wish & 1, wish >> 1 & 1, wish >> 2].map(|asked| asked << line);
-            let want = if wish == 7 { refusal(9, 3) } else { Ok(()) };
+            let want = if wish == 7 { refusal(9, place(EDGES, 0)) } else { Ok(()) };
             assert_eq!(check(&edge_sheet(edge)), want, "line {line}: {edge:X?}");
             // and where every other line stays or rises
             let others = !(1 << line);
@@ -162,13 +183,13 @@ fn edges_accepted_and_refused() {
         }
     }
     assert_eq!(check(&edge_sheet([u32::MAX, 0, u32::MAX])), Ok(()));
-    assert_eq!(check(&edge_sheet([u32::MAX; 3])), refusal(9, 3));
+    assert_eq!(check(&edge_sheet([u32::MAX; 3])), refusal(9, place(EDGES, 0)));
     // FFFF is what all three would be, on whichever line; the others come of no wishes at all
-    let mut out = [0x77; 26];
+    let mut out = vec![0x77; length(EDGES, 1)];
     for table in [0xFFFF, 0xAFAE, 0xAFBF, 0xFFFE, 0x7FFF, 0xEFEF] {
         assert_eq!(read(&edge_stream(table), &mut out), refusal(16, 0), "{table:04X}");
     }
-    assert_eq!(out, [0x77; 26]);
+    assert!(out.iter().all(|&byte| byte == 0x77));
 }
 
 #[test]
@@ -186,21 +207,21 @@ fn edges_in_a_notice() {
 
 #[test]
 fn streams_of_the_bench() {
-    let mut out = [0; 1571];
+    let mut out = [0; LONGEST_SHEET];
     for opcode in [0, 0x9E, 0x9F] {
         assert_eq!(read(&[opcode, 0, 0, 0], &mut out), refusal(13, 0));
     }
     assert_eq!(read(&command(0x9F, 0), &mut out), refusal(14, 0));
     assert_eq!(read(&command(0x9E, 0x43), &mut out), refusal(15, 0));
     assert_eq!(read(&command(0x9E, 0x120), &mut out), refusal(15, 0));
-    assert_eq!(read(&[], &mut out), Ok(5));
-    assert_eq!(out[..5], [0; 5]);
+    assert_eq!(read(&[], &mut out), Ok(SECTIONS));
+    assert_eq!(out[..SECTIONS], [0; SECTIONS]);
 }
 
 #[test]
 fn places_in_a_stream() {
-    let mut out = [0; 1571];
-    let mut stream = vec![0; 2520];
+    let mut out = [0; LONGEST_SHEET];
+    let mut stream = vec![0; LONGEST_STREAM];
     let length = compile(&range_sheet(3, 9, 0xF), &mut stream).unwrap();
     stream.truncate(length);
     assert_eq!(length, 170);
@@ -236,45 +257,45 @@ fn fields_of_a_state_and_their_bits() {
 fn states_accepted_and_refused() {
     let judged = |number, else_state, flag: usize, value| {
         let mut record = state(0, number, else_state, 0);
-        record[14 + flag] = value;
+        record[DESCRIPTION + 5 + flag] = value;
         check(&state_sheet(&[record]))
     };
     assert_eq!(judged(0, 0, 0, 0), Ok(()));
     assert_eq!(judged(0xF_FFFF, 15, 0, 1), Ok(()));
     for number in [0x10_0000, 0x10_0001, 0x100_0000, 0xFFFF_FFFF] {
-        assert_eq!(judged(number, 0, 0, 0), refusal(18, 5), "number {number:X}");
+        assert_eq!(judged(number, 0, 0, 0), refusal(18, place(STATES, 0)), "number {number:X}");
     }
     for else_state in [16, 17, 255] {
-        assert_eq!(judged(1, else_state, 0, 0), refusal(18, 5), "else {else_state}");
+        assert_eq!(judged(1, else_state, 0, 0), refusal(18, place(STATES, 0)), "else {else_state}");
     }
     for flag in 0..8 {
         assert_eq!(judged(1, 0, flag, 1), Ok(()));
-        assert_eq!(judged(1, 0, flag, 2), refusal(18, 5), "flag {flag}");
-        assert_eq!(judged(1, 0, flag, 255), refusal(18, 5), "flag {flag}");
+        assert_eq!(judged(1, 0, flag, 2), refusal(18, place(STATES, 0)), "flag {flag}");
+        assert_eq!(judged(1, 0, flag, 255), refusal(18, place(STATES, 0)), "flag {flag}");
     }
 }
 
 #[test]
 fn eighteen_comes_last_in_a_record_and_at_its_place() {
     let bad = state(7, 0x10_0000, 16, 0);
-    assert_eq!(check(&state_sheet(&[state(6, 1, 0, 0), bad.clone()])), refusal(18, 27));
-    assert_eq!(check(&state_sheet(&[state(7, 1, 0, 0), bad.clone()])), refusal(4, 27));
+    assert_eq!(check(&state_sheet(&[state(6, 1, 0, 0), bad.clone()])), refusal(18, place(STATES, 1)));
+    assert_eq!(check(&state_sheet(&[state(7, 1, 0, 0), bad.clone()])), refusal(4, place(STATES, 1)));
     let mut label = bad.clone();
     label[1] = 0x1F;
-    assert_eq!(check(&state_sheet(&[label])), refusal(5, 5));
+    assert_eq!(check(&state_sheet(&[label])), refusal(5, place(STATES, 0)));
     let mut slot = bad.clone();
     slot[0] = 16;
-    assert_eq!(check(&state_sheet(&[slot])), refusal(3, 5));
+    assert_eq!(check(&state_sheet(&[slot])), refusal(3, place(STATES, 0)));
     let sheet = state_sheet(&[bad]);
-    assert_eq!(check(&sheet[..26]), refusal(1, 5));
-    assert_eq!(check(&[&sheet[..], &[0]].concat()), refusal(18, 5), "before bytes left over");
-    assert_eq!(check(&state_sheet(&vec![state(0, 1, 0, 0); 17])), refusal(2, 4));
+    assert_eq!(check(&sheet[..place(STATES, 1) - 1]), refusal(1, place(STATES, 0)));
+    assert_eq!(check(&[&sheet[..], &[0]].concat()), refusal(18, place(STATES, 0)), "before bytes left over");
+    assert_eq!(check(&state_sheet(&vec![state(0, 1, 0, 0); 17])), refusal(2, STATES));
 }
 
 #[test]
 fn states_go_out_first() {
     let (low, high) = (state(0, 1, 2, 0), state(15, 0xABCDE, 15, 0x81));
-    let sheet = sheet([&[record(0, LABEL, &[5, 0xF])], &[], &[], &[], &[low, high]]);
+    let sheet = sheet([(TERMS, vec![record(0, "LABEL", &[5, 0xF])]), (STATES, vec![low, high])]);
     let mut stream = [0; 45];
     assert_eq!(compile(&sheet, &mut stream), Ok(45));
     let numbers: Vec<(u8, u32)> =
@@ -284,27 +305,27 @@ fn states_go_out_first() {
     let mut back = vec![0; sheet.len()];
     assert_eq!(read(&stream, &mut back), Ok(sheet.len()));
     let mut labelled = String::from_utf8_lossy(&sheet).into_owned();
-    for (label, reads) in [("LABEL   ", "T00     "), ("LABEL 00", "Q00     "), ("LABEL 15", "Q15     ")] {
-        assert!(labelled.contains(label));
-        labelled = labelled.replace(label, reads);
+    for (label, reads) in [("LABEL", "T00"), ("LABEL 00", "Q00"), ("LABEL 15", "Q15")] {
+        let (label, reads) = (format!("{label:<LABEL$}"), format!("{reads:<LABEL$}"));
+        assert!(labelled.contains(&label));
+        labelled = labelled.replace(&label, &reads);
     }
     assert_eq!(String::from_utf8_lossy(&back), labelled);
 }
 
 #[test]
 fn states_in_a_stream() {
-    let mut out = [0; 1571];
+    let mut out = [0; LONGEST_SHEET];
     let select = |address| command(0x9E, address);
     let item = |address, word| [select(address), command(0x9F, word)].concat();
     for slot in 0..16 {
         // no word is refused
         for word in [0, 1, 0x000F_FFFF, 0x0010_0000, 0x5AA5_5AA5, 0x8000_0000, 0xFFFF_FFFF] {
-            assert_eq!(read(&item(slot, word), &mut out), Ok(27));
-            assert_eq!(check(&out[..27]), Ok(()));
-            let label = format!("Q{slot:02}     ");
-            assert_eq!((&out[..5], out[5], &out[6..14]), (&[0, 0, 0, 0, 1][..], slot as u8, label.as_bytes()));
-            let fields = (word & 0xF_FFFF, (word >> 20 & 15) as u8, (word >> 24) as u8);
-            assert_eq!(out[14..27], state(0, fields.0, fields.1, fields.2)[9..]);
+            let back = read(&item(slot, word), &mut out).map(|length| &out[..length]);
+            let mut want = state(slot as u8, word & 0xF_FFFF, (word >> 20 & 15) as u8, (word >> 24) as u8);
+            want[1..DESCRIPTION].copy_from_slice(&padded(&format!("Q{slot:02}")));
+            assert_eq!(back, Ok(&state_sheet(&[want])[..]));
+            assert_eq!(back.and_then(check), Ok(()));
         }
     }
     for address in [0x10, 0x1F, 0x100, 0x0100_0000, 0x8000_0000] {
@@ -317,7 +338,7 @@ fn states_in_a_stream() {
     assert_eq!(read(&[item(2, 0), item(1, 0)].concat(), &mut out), refusal(15, 10), "falling");
     let term = [select(0x20), command(0x9F, 0xFFFF_FFFF).repeat(4)].concat();
     assert_eq!(read(&[&term[..], &item(0, 0)].concat(), &mut out), refusal(15, 25), "a state behind a term");
-    assert_eq!(read(&[&item(15, 0)[..], &term].concat(), &mut out), Ok(44));
+    assert_eq!(read(&[&item(15, 0)[..], &term].concat(), &mut out), Ok(SECTIONS + SIZE[TERMS] + SIZE[STATES]));
 }
 
 #[test]
@@ -334,11 +355,11 @@ fn states_in_a_notice() {
     let old = state_sheet(&[state(3, 1, 0, 0), state(9, 1, 0, 0), state(15, 1, 0, 0)]);
     let new = state_sheet(&[state(9, 1, 0, 0), state(10, 1, 0, 0), named.clone()]);
     assert_eq!(noticed(&old, &new), "STAT 03 GONE\nSTAT 10 NEW\nSTAT 15 NAME\n");
-    named[13] = 1;
-    let mut sums = state_sheet(&[named]);
-    assert_eq!(noticed(&state_sheet(&[state(15, 1, 0, 0)]), &sums), "STAT 15 NAME\nSTAT 15 ALTR\n");
+    named[DESCRIPTION + 4] = 1; // another else state
+    let altered = state_sheet(&[named.clone()]);
+    assert_eq!(noticed(&state_sheet(&[state(15, 1, 0, 0)]), &altered), "STAT 15 NAME\nSTAT 15 ALTR\n");
     // behind the sums
-    sums.splice(3..4, [&[1][..], &record(47, LABEL, &[]), &[0; 11]].concat());
+    let sums = sheet([(SUMS, vec![sum(47, [0; 11])]), (STATES, vec![named])]);
     assert_eq!(noticed(&state_sheet(&[state(0, 1, 0, 0)]), &sums), "SUMS 47 NEW\nSTAT 00 GONE\nSTAT 15 NEW\n");
 }
 
@@ -369,16 +390,11 @@ fn sums_in_a_notice() {
 
 #[test]
 fn the_notice_given_whole() {
-    let range = record(0, b"LEVELS  ", &[3, 9, 0xF]);
-    let terms = [record(0, b"DOORLOCK", &[5, 0xF]), record(1, b"BRAKE   ", &[4, 0xF])];
-    let old = sheet([&terms, &[range], &[], &[], &[]]);
-    let new = sheet([
-        &[record(0, b"DOORLK  ", &[5, 0xF]), record(1, b"BRAKE   ", &[6, 0xF]), record(2, LABEL, &[1, 1])],
-        &[],
-        &[],
-        &[],
-        &[],
-    ]);
+    let range = record(0, "LEVELS", &[3, 9, 0xF]);
+    let terms = vec![record(0, "DOORLOCK", &[5, 0xF]), record(1, "BRAKE", &[4, 0xF])];
+    let old = sheet([(TERMS, terms), (RANGES, vec![range])]);
+    let terms = vec![record(0, "DOORLK", &[5, 0xF]), record(1, "BRAKE", &[6, 0xF]), record(2, "LABEL", &[1, 1])];
+    let new = sheet([(TERMS, terms)]);
     let text = noticed(&old, &new);
     assert_eq!(text, "TERM 00 NAME\nTERM 01 ALTR 00000004\nTERM 02 NEW\nRANG 00 GONE\n");
     assert_eq!(text.len(), 60);
@@ -391,9 +407,14 @@ fn the_notice_given_whole() {
 #[test]
 fn wrong_notices_do_not_agree() {
     let made = |target, upper, fall, ab, number| {
-        let (term, range) = (record(1, LABEL, &[target, 0xF]), record(0, LABEL, &[3, upper, 0xF]));
-        let sums = [sum(5, [ab, 0, 0, 0, 0, 0, 0, 0, 4, 0, 4]), sum(6, [ab, 0, 0, 0, 0, 0, 0, 0, 0, 0, 4])];
-        sheet([&[term], &[range], &[record(1, LABEL, &[1, fall, 4])], &sums, &[state(7, number, 0, 0)]])
+        let sums = vec![sum(5, [ab, 0, 0, 0, 0, 0, 0, 0, 4, 0, 4]), sum(6, [ab, 0, 0, 0, 0, 0, 0, 0, 0, 0, 4])];
+        sheet([
+            (TERMS, vec![record(1, "LABEL", &[target, 0xF])]),
+            (RANGES, vec![record(0, "LABEL", &[3, upper, 0xF])]),
+            (EDGES, vec![record(1, "LABEL", &[1, fall, 4])]),
+            (SUMS, sums),
+            (STATES, vec![state(7, number, 0, 0)]),
+        ])
     };
     let (old, new) = (made(4, 9, 2, 2, 1), made(6, 8, 0, 4, 2));
     let agrees = |text: &str| {
@@ -450,86 +471,109 @@ fn sums() {
 #[test]
 fn final_a_and_b() {
     let stream = |word| [command(0x9E, 0x40), command(0x9F, word), command(0x9F, 0).repeat(5)].concat();
-    let mut out = [0x77; 40];
+    let mut out = [0x77; LONGEST_SHEET];
     for (code, word) in [(8, 0x000A), (9, 0x000C)] {
         assert_eq!(sum_words(&[0, 0, 0, 0, 0, 0, 0, 0, 0, 0, code]), [word, 0, 0, 0, 0, 0]);
-        assert_eq!(read(&stream(word), &mut out), Ok(25));
-        assert_eq!(out[..25], [&[0, 0, 0, 1, 0][..], b"S00     ", &[0; 10], &[code, 0]].concat());
+        let want = [record(0, "S00", &[]), vec![0; 10], vec![code]].concat();
+        assert_eq!(read(&stream(word), &mut out), Ok(length(SUMS, 1)));
+        assert_eq!(out[..length(SUMS, 1)], sum_sheet(&[want]));
     }
     out.fill(0x77);
     for word in [0x0002, 0x0004, 0xA_0000, 0xA_000A] {
         assert_eq!(read(&stream(word), &mut out), refusal(16, 0), "{word:04X}");
     }
-    assert_eq!(out, [0x77; 40]);
+    assert_eq!(out, [0x77; LONGEST_SHEET]);
     // the listing's mids and pairs stay
     assert_eq!(sum_words(&[8, 9, 8, 9, 8, 9, 8, 9, 8, 9, 0])[1..3], [0xFFF0EEEE, 0xF0008888]);
 }
 
+/// The rules' own numbers: they stand here by hand, and nowhere else in these tests.
+#[test]
+fn lengths_of_the_rules() {
+    assert_eq!((LABEL, SECTIONS, SIZE), (8, 5, [17, 21, 21, 20, 22]));
+    assert_eq!((LONGEST_SHEET, LONGEST_STREAM, LONGEST_NOTICE), (1571, 2520, 2412));
+}
+
+/// Every slot of every section taken. Each record has a byte that may become 4, and is then told apart.
+fn full() -> Setup {
+    let mut setup = Setup::default();
+    for (section, most) in MOST.into_iter().enumerate() {
+        let record = |slot| match section {
+            TERMS => record(slot, &label(slot), &[1, 1]),
+            RANGES => record(slot, &label(slot), &[1, 1, 1]),
+            EDGES => record(slot, &label(slot), &[1, 1, 2]),
+            SUMS => sum(slot, [9; 11]),
+            STATES => state(slot, 1, 15, 0xFF),
+            _ => unreachable!("no such section"),
+        };
+        setup.sections[section] = (0..most).map(record).collect();
+    }
+    setup
+}
+
 #[test]
 fn sizes() {
-    let mut full: [Vec<Vec<u8>>; 5] = Default::default();
-    full[0] = (0..10).map(|slot| record(slot, &label(slot), &[1, 1])).collect();
-    full[1] = (0..2).map(|slot| record(slot, &label(slot), &[1, 1, 1])).collect();
-    full[2] = (0..2).map(|slot| record(slot, &label(slot), &[1, 1, 2])).collect();
-    full[3] = (0..48).map(|slot| sum(slot, [9; 11])).collect();
-    full[4] = (0..16).map(|slot| state(slot, 1, 15, 0xFF)).collect();
-    let old = sheet([&full[0], &full[1], &full[2], &full[3], &full[4]]);
-    for (records, at) in full.iter_mut().zip([9, 17, 9, 19, 9]) {
+    let mut setup = full();
+    let old = setup.sheet();
+    for (records, at) in setup.sections.iter_mut().zip([0, 8, 0, 10, 0]) {
         records.iter_mut().for_each(|record| {
             record[1] = b'X';
-            record[at] = 4;
+            record[DESCRIPTION + at] = 4;
         });
     }
-    let new = sheet([&full[0], &full[1], &full[2], &full[3], &full[4]]);
-    assert_eq!((old.len(), check(&old), check(&new)), (1571, Ok(()), Ok(())));
-    let mut stream = [0; 2520];
-    assert_eq!(compile(&old, &mut stream), Ok(2520));
-    assert_eq!(compile(&old, &mut [0; 2519]), refusal(12, 2520));
-    assert_eq!(read(&stream, &mut [0; 1571]), Ok(1571));
-    assert_eq!(read(&stream, &mut [0; 1570]), refusal(12, 1571));
-    assert_eq!(noticed(&old, &new).len(), 2412);
+    let new = setup.sheet();
+    assert_eq!((old.len(), check(&old), check(&new)), (LONGEST_SHEET, Ok(()), Ok(())));
+    let mut stream = [0; LONGEST_STREAM];
+    assert_eq!(compile(&old, &mut stream), Ok(LONGEST_STREAM));
+    assert_eq!(compile(&old, &mut [0; LONGEST_STREAM - 1]), refusal(12, LONGEST_STREAM));
+    assert_eq!(read(&stream, &mut [0; LONGEST_SHEET]), Ok(LONGEST_SHEET));
+    assert_eq!(read(&stream, &mut [0; LONGEST_SHEET - 1]), refusal(12, LONGEST_SHEET));
+    assert_eq!(noticed(&old, &new).len(), LONGEST_NOTICE);
     // one byte more of a sheet, one command more of a stream: what is behind changes nothing
-    assert_eq!(check(&[&old[..], &[0]].concat()), refusal(11, 1571));
-    assert_eq!(read(&[&stream[..], &command(0x9E, 0)].concat(), &mut [0; 1571]), refusal(15, 2520));
-    // the full sheet of the four sections that there were before the states
-    assert_eq!(check(&old[..1218]), refusal(1, 1218));
+    assert_eq!(check(&[&old[..], &[0]].concat()), refusal(11, LONGEST_SHEET));
+    let longer = [&stream[..], &command(0x9E, 0)].concat();
+    assert_eq!(read(&longer, &mut [0; LONGEST_SHEET]), refusal(15, LONGEST_STREAM));
+    // the full sheet without its last section
+    let last = setup.count_at(SECTIONS - 1);
+    assert_eq!(check(&old[..last]), refusal(1, last));
 }
 
 #[test]
 fn sections() {
-    let sheet = sheet([&[], &[record(0, LABEL, &[1, 1, 1])], &[], &[], &[state(2, 1, 0, 0), state(3, 1, 0, 0)]]);
+    let states = vec![state(2, 1, 0, 0), state(3, 1, 0, 0)];
+    let sheet = sheet([(RANGES, vec![record(0, "LABEL", &[1, 1, 1])]), (STATES, states)]);
     assert_eq!(section(&sheet, 0), (0, 0, 0));
-    assert_eq!(section(&sheet, 1), (0, 2, 21));
+    assert_eq!(section(&sheet, 1), (0, place(RANGES, 0), SIZE[RANGES]));
     assert_eq!(section(&sheet, 3), (0, 0, 0));
-    assert_eq!(section(&sheet, 4), (0, 26, 44));
-    assert_eq!(section(&sheet, 5), (0, 0, 0));
-    assert_eq!(section(&sheet[..20], 1), (1, 0, 0));
-    assert_eq!(section(&sheet[..60], 1), (1, 0, 0), "a fault of the last section empties the others too");
+    assert_eq!(section(&sheet, 4), (0, place(STATES, 0) + SIZE[RANGES], 2 * SIZE[STATES]));
+    assert_eq!(section(&sheet, SECTIONS as u8), (0, 0, 0));
+    assert_eq!(section(&sheet[..place(RANGES, 1) - 1], 1), (1, 0, 0));
+    let states_cut = sheet.len() - SIZE[STATES] + 1;
+    assert_eq!(section(&sheet[..states_cut], 1), (1, 0, 0), "a fault of the last section empties the others too");
 }
 
 #[test]
 fn first_fault_wins() {
-    let term = |slot| record(slot, LABEL, &[0, 0]);
-    assert_eq!(check(&[]), refusal(1, 0));
-    assert_eq!(check(&[0, 0, 0]), refusal(1, 3));
-    assert_eq!(check(&[0, 0, 0, 0]), refusal(1, 4), "four sections are no sheet any more");
-    assert_eq!(check(&[0, 0, 0, 0, 0]), Ok(()));
+    let terms = |slots: &[u8]| sheet([(TERMS, slots.iter().map(|&slot| record(slot, "LABEL", &[0, 0])).collect())]);
+    for counts in 0..SECTIONS {
+        assert_eq!(check(&vec![0; counts]), refusal(1, counts), "too few sections are no sheet");
+    }
+    assert_eq!(check(&[0; SECTIONS]), Ok(()));
     assert_eq!(check(&[11]), refusal(2, 0));
     assert_eq!(check(&[0, 3]), refusal(2, 1));
     assert_eq!(check(&[1, 200]), refusal(1, 1), "an incomplete record comes before its bad slot");
-    assert_eq!(check(&[0, 0, 0, 0, 0, 0]), refusal(11, 5));
-    assert_eq!(check(&sheet([&[term(10)], &[], &[], &[], &[]])), refusal(3, 1));
-    assert_eq!(check(&sheet([&[term(9), term(10)], &[], &[], &[], &[]])), refusal(3, 18));
-    assert_eq!(check(&sheet([&[term(3), term(3)], &[], &[], &[], &[]])), refusal(4, 18));
-    assert_eq!(check(&sheet([&[term(3), term(2)], &[], &[], &[], &[]])), refusal(4, 18));
+    assert_eq!(check(&[0; SECTIONS + 1]), refusal(11, SECTIONS));
+    assert_eq!(check(&terms(&[10])), refusal(3, place(TERMS, 0)));
+    assert_eq!(check(&terms(&[9, 10])), refusal(3, place(TERMS, 1)));
+    assert_eq!(check(&terms(&[3, 3])), refusal(4, place(TERMS, 1)));
+    assert_eq!(check(&terms(&[3, 2])), refusal(4, place(TERMS, 1)));
     for byte in [0x1F, 0x7F] {
-        let mut bad = term(0);
-        bad[8] = byte;
-        assert_eq!(check(&sheet([&[bad], &[], &[], &[], &[]])), refusal(5, 1));
+        let mut bad = terms(&[0]);
+        bad[place(TERMS, 0) + LABEL] = byte; // the label's last
+        assert_eq!(check(&bad), refusal(5, place(TERMS, 0)));
     }
-    assert_eq!(check(&edge_sheet([3, 2, 2])), refusal(9, 3));
+    assert_eq!(check(&edge_sheet([3, 2, 2])), refusal(9, place(EDGES, 0)));
     assert_eq!(check(&edge_sheet([1, 2, 2])), Ok(()));
-    let mut sum = record(47, LABEL, &[]);
-    sum.extend([9, 9, 9, 9, 9, 9, 9, 9, 9, 9, 10]);
-    assert_eq!(check(&sheet([&[], &[], &[], &[sum], &[]])), refusal(10, 4));
+    let bad = sum(47, [9, 9, 9, 9, 9, 9, 9, 9, 9, 9, 10]);
+    assert_eq!(check(&sum_sheet(&[bad])), refusal(10, place(SUMS, 0)));
 }

@@ -1,8 +1,15 @@
 //! What is stored in examples/ is what the plain implementation makes.
-use plain::{bench, Run};
+use plain::make::padded;
+use plain::{bench, Run, DESCRIPTION, SIZE};
 
 fn stored(name: &str) -> Vec<u8> {
     std::fs::read(format!("{}/../../examples/{name}", env!("CARGO_MANIFEST_DIR"))).expect(name)
+}
+
+/// A record of a section, by how many there are before it.
+fn record(sheet: &[u8], section: usize, which: usize) -> &[u8] {
+    let start = plain::section(sheet, section as u8).1;
+    &sheet[start + which * SIZE[section]..][..SIZE[section]]
 }
 
 #[test]
@@ -23,10 +30,12 @@ fn examples_are_as_made() {
         let back = bytes(&format!("{name}.back"));
         assert_eq!((plain::check(back), back.len()), (Ok(()), bytes(&format!("{name}.sheet")).len()), "{name}");
     }
-    for (at, label) in [(2, "T00     "), (138, "T09     "), (177, "R01     "), (199, "E00     "), (462, "S11     ")] {
-        assert_eq!(&bytes("lift.back")[at..at + 8], label.as_bytes());
+    let back = bytes("lift.back");
+    for (section, which, label) in
+        [(0, 0, "T00"), (0, 8, "T09"), (1, 1, "R01"), (2, 0, "E00"), (3, 11, "S11"), (4, 3, "Q03")]
+    {
+        assert_eq!(&record(back, section, which)[1..DESCRIPTION], padded(label));
     }
-    assert_eq!(&bytes("lift.back")[549..557], b"Q03     ");
     // range 0 without term 3, the only other source that the sum asks for
     let notice = String::from_utf8(bytes("lift-revised.notice").clone()).expect("text");
     assert!(notice.contains("\nSUMS 08 ALTR 0400\n"));
@@ -51,7 +60,7 @@ fn the_revised_edge_is_told_apart() {
     let text = String::from_utf8_lossy(&notice);
     assert!(text.contains("\nEDGE 00 ALTR 00000000 00000000\nEDGE 01 NAME\n"), "{text}");
     assert_eq!(plain::notice_agrees(&lift, &revised, &notice, plain::scan_telling_sum), Ok(()));
-    let edge = |sheet: &[u8]| words(&sheet[plain::section(sheet, 2).1 + 9..][..12]);
+    let edge = |sheet: &[u8]| words(&record(sheet, 2, 0)[DESCRIPTION..]);
     assert_eq!((edge(&lift), edge(&revised)), (vec![0x40, 0x30, 0], vec![0x40, 0x30, 0x20]));
 }
 
@@ -80,7 +89,7 @@ fn rows(page: &str) -> Vec<Vec<&str>> {
 #[test]
 fn the_page_tells_what_the_lift_takes() {
     let (sheet, samples) = (stored("lift.sheet"), words(&stored("lift.words")));
-    let (page, states) = (String::from_utf8(stored("lift-words.md")).expect("text"), plain::section(&sheet, 4).1);
+    let page = String::from_utf8(stored("lift-words.md")).expect("text");
     let (mut at, mut run) = (0, Run::default());
     for row in rows(&page) {
         let last = row[0].rsplit(' ').next().and_then(|last| last.parse().ok()).expect("a sample's number");
@@ -94,7 +103,7 @@ fn the_page_tells_what_the_lift_takes() {
             assert_eq!(row[5].ends_with("the run ends"), next.ended && !run.ended, "samples {}", row[0]);
             run = next;
         }
-        let label = &sheet[states + 22 * run.state as usize + 1..][..8];
+        let label = &record(&sheet, 4, run.state as usize)[1..DESCRIPTION];
         let then = format!("{} {}: ", String::from_utf8_lossy(label).trim_end(), run.count);
         assert!(row[5].starts_with(&then), "samples {}: {then}", row[0]);
         at = last + 1;

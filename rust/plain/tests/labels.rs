@@ -1,7 +1,7 @@
 //! Labels: no two of a section are the same (19), and what the reader writes for them.
-use plain::make::{self, Random, Setup, Tally};
+use plain::make::{self, padded, Random, Setup, Tally};
 use plain::{check, compile, notice, read, section, NoticeRefusal, Refusal};
-use plain::{LONGEST_NOTICE, LONGEST_SHEET, LONGEST_STREAM, MOST, SECTIONS, SIZE};
+use plain::{DESCRIPTION, LABEL, LONGEST_NOTICE, LONGEST_SHEET, LONGEST_STREAM, MOST, SECTIONS, SIZE};
 
 fn refusal(number: u8, place: usize) -> Result<(), Refusal> {
     Err(Refusal { number, place })
@@ -10,10 +10,10 @@ fn refusal(number: u8, place: usize) -> Result<(), Refusal> {
 /// A record without faults; the label is filled up with spaces. Bytes of 0 are a description but for a range.
 fn record(section: usize, slot: u8, label: &str) -> Vec<u8> {
     let mut record = vec![slot];
-    record.extend(format!("{label:<8}").bytes());
+    record.extend(padded(label));
     record.resize(SIZE[section], 0);
     if section == 1 {
-        [9, 13, 17].iter().for_each(|&number| record[number] = 1);
+        [0, 4, 8].iter().for_each(|&number| record[DESCRIPTION + number] = 1);
     }
     record
 }
@@ -58,25 +58,25 @@ fn equal_labels_of_a_section_are_refused() {
         assert_eq!(judged(section, &["ONE", "TWO", "TWO", "ONE"]), refusal(19, place(section, 2)));
         assert_eq!(judged(section, &["ONE", "TWO", "ONE", "TWO"]), refusal(19, place(section, 2)));
     }
-    assert_eq!(judged(0, &["ONE", "ONE"]), refusal(19, 18));
-    assert_eq!(judged(4, &["ONE", "TWO", "ONE"]), refusal(19, 49));
 }
 
 #[test]
-fn all_eight_bytes_count() {
+fn all_bytes_of_a_label_count() {
+    let cut = |text: &str| text[..LABEL].to_string();
     for section in 0..SECTIONS {
-        assert_eq!(judged(section, &["AB", "AB     ."]), Ok(()), "equal but for the padding");
+        let padding = format!("{:<1$}.", "AB", LABEL - 1);
+        assert_eq!(judged(section, &["AB", &padding]), Ok(()), "equal but for the padding");
         assert_eq!(judged(section, &["AB", " AB"]), Ok(()));
         assert_eq!(judged(section, &["AB", "ab"]), Ok(()));
         assert_eq!(judged(section, &["AB", "ABAB"]), Ok(()));
-        assert_eq!(judged(section, &["AB", "AB      "]), refusal(19, place(section, 1)));
-        for label in ["ABCDEFGH", "        ", "~~~~~~~~"] {
-            for at in 0..8 {
+        assert_eq!(judged(section, &["AB", "AB  "]), refusal(19, place(section, 1)));
+        for label in ["ABCDEFGH", " ", "~"].map(|piece| cut(&piece.repeat(LABEL))) {
+            for at in 0..LABEL {
                 for byte in ["!", "A", "}", "9"] {
-                    let mut other = label.to_string();
+                    let mut other = label.clone();
                     other.replace_range(at..at + 1, byte);
                     let want = if other == label { refusal(19, place(section, 1)) } else { Ok(()) };
-                    assert_eq!(judged(section, &[label, &other]), want, "{label:?} {other:?}");
+                    assert_eq!(judged(section, &[&label, &other]), want, "{label:?} {other:?}");
                 }
             }
         }
@@ -96,20 +96,20 @@ fn sections_may_have_the_same_labels() {
     setup.sections[3] = records(3, &["", "ONE", "TWO"]);
     assert_eq!(check(&setup.sheet()), Ok(()));
     setup.sections[3] = records(3, &["", "ONE", "TWO", ""]);
-    assert_eq!(check(&setup.sheet()), refusal(19, setup.count_at(3) + 1 + 3 * 20));
+    assert_eq!(check(&setup.sheet()), refusal(19, setup.count_at(3) + 1 + 3 * SIZE[3]));
 }
 
-/// What each section's second record has wrong, with the number; and where that stands in the record.
+/// What a record has wrong: the number, the section, where that stands in the description, and the byte.
 const FAULTS: [(u8, usize, usize, u8); 9] = [
-    (6, 1, 9, 0),     // lower 0
-    (7, 1, 9, 2),     // lower 2, upper 1
-    (8, 1, 13, 2),    // upper 2 for one line
-    (8, 1, 17, 0),    // upper 1 for no line
-    (10, 3, 9, 10),   // an operation
-    (10, 3, 19, 255), // the last operation
-    (18, 4, 11, 16),  // a number
-    (18, 4, 13, 16),  // an else state
-    (18, 4, 21, 2),   // the last flag
+    (6, 1, 0, 0),     // lower 0
+    (7, 1, 0, 2),     // lower 2, upper 1
+    (8, 1, 4, 2),     // upper 2 for one line
+    (8, 1, 8, 0),     // upper 1 for no line
+    (10, 3, 0, 10),   // an operation
+    (10, 3, 10, 255), // the last operation
+    (18, 4, 2, 16),   // a number
+    (18, 4, 4, 16),   // an else state
+    (18, 4, 12, 2),   // the last flag
 ];
 
 #[test]
@@ -117,7 +117,7 @@ fn nineteen_comes_before_the_faults_of_a_description() {
     for (number, section, at, byte) in FAULTS {
         let judged = |label| {
             let mut records = records(section, &["ONE", label]);
-            records[1][at] = byte;
+            records[1][DESCRIPTION + at] = byte;
             check(&sheet(section, records))
         };
         assert_eq!(judged("TWO"), refusal(number, place(section, 1)));
@@ -125,10 +125,10 @@ fn nineteen_comes_before_the_faults_of_a_description() {
     }
     for (label, number) in [("TWO", 9), ("ONE", 19)] {
         let mut edges = records(2, &["ONE", label]);
-        [9, 13, 17].iter().for_each(|&event| edges[1][event] = 1); // rise, fall and neither
+        [0, 4, 8].iter().for_each(|&event| edges[1][DESCRIPTION + event] = 1); // rise, fall and neither
         assert_eq!(check(&sheet(2, edges.clone())), refusal(number, place(2, 1)));
         // without the fall there is nothing wrong beside the label
-        edges[1][13] = 0;
+        edges[1][DESCRIPTION + 4] = 0;
         assert_eq!(check(&sheet(2, edges)), if number == 19 { refusal(19, place(2, 1)) } else { Ok(()) });
     }
 }
@@ -146,15 +146,15 @@ fn nineteen_comes_behind_slot_and_label_bytes() {
         // two labels with the same bad byte: the earlier record has a fault too
         for byte in [0x00, 0x1F, 0x7F, 0xFF] {
             let mut records = records(section, &["ONE", "ONE"]);
-            records.iter_mut().for_each(|record| record[8] = byte);
+            records.iter_mut().for_each(|record| record[LABEL] = byte);
             assert_eq!(check(&sheet(section, records)), refusal(5, place(section, 0)));
         }
-        assert_eq!(same(|record| record[8] = 0x1F), refusal(5, place(section, 1)));
+        assert_eq!(same(|record| record[LABEL] = 0x1F), refusal(5, place(section, 1)));
         // a record that lacks bytes, and the count
         let sheet = sheet(section, records(section, &["ONE", "ONE"]));
         let end = place(section, 2);
         assert_eq!(check(&sheet[..end - 1]), refusal(1, place(section, 1)));
-        assert_eq!(check(&sheet[..place(section, 1) + 9]), refusal(1, place(section, 1)));
+        assert_eq!(check(&sheet[..place(section, 1) + DESCRIPTION]), refusal(1, place(section, 1)));
         assert_eq!(check(&sheet[..end]), refusal(19, place(section, 1)));
         assert_eq!(check(&[&sheet[..], &[0]].concat()), refusal(19, place(section, 1)), "before bytes left over");
         let many = vec![record(section, 0, "ONE"); usize::from(MOST[section]) + 1];
@@ -166,11 +166,11 @@ fn nineteen_comes_behind_slot_and_label_bytes() {
 fn an_earlier_fault_comes_first() {
     for (number, section, at, byte) in FAULTS {
         let mut equal = records(section, &["ONE", "ONE"]);
-        equal[0][at] = byte;
+        equal[0][DESCRIPTION + at] = byte;
         assert_eq!(check(&sheet(section, equal)), refusal(number, place(section, 0)));
     }
     let mut sums = records(3, &["ONE", "TWO", "ONE"]);
-    sums[1][9] = 10;
+    sums[1][DESCRIPTION] = 10;
     assert_eq!(check(&sheet(3, sums)), refusal(10, place(3, 1)));
     let mut sums = records(3, &["ONE", "ONE", "TWO"]);
     sums[2][0] = 48;
@@ -179,12 +179,12 @@ fn an_earlier_fault_comes_first() {
     let mut setup = Setup::default();
     setup.sections[0] = records(0, &["ONE", "ONE"]);
     setup.sections[4] = records(4, &["ONE", "ONE"]);
-    assert_eq!(check(&setup.sheet()), refusal(19, 18));
+    assert_eq!(check(&setup.sheet()), refusal(19, place(0, 1)));
     setup.sections[4] = vec![record(4, 16, "")];
-    assert_eq!(check(&setup.sheet()), refusal(19, 18));
+    assert_eq!(check(&setup.sheet()), refusal(19, place(0, 1)));
     setup.sections[0] = vec![record(0, 10, "")];
     setup.sections[4] = records(4, &["ONE", "ONE"]);
-    assert_eq!(check(&setup.sheet()), refusal(3, 1));
+    assert_eq!(check(&setup.sheet()), refusal(3, place(0, 0)));
 }
 
 /// Every slot of a section taken, with labels that differ in their last bytes alone.
@@ -200,28 +200,25 @@ fn every_two_records_of_a_full_section() {
         for later in 0..all.len() {
             for earlier in 0..later {
                 let mut records = all.clone();
-                records[later][1..9].copy_from_slice(&all[earlier][1..9]);
+                records[later][1..DESCRIPTION].copy_from_slice(&all[earlier][1..DESCRIPTION]);
                 assert_eq!(check(&sheet(section, records)), refusal(19, place(section, later)), "{earlier} {later}");
             }
         }
     }
-    let mut sums = full(3);
-    sums[47][1..9].copy_from_slice(b"LABEL 00");
-    assert_eq!(check(&sheet(3, sums)), refusal(19, 944), "the last as the first");
 }
 
 #[test]
 fn every_call_on_a_sheet_refuses() {
     let (good, bad) = (sheet(0, records(0, &["ONE", "TWO"])), sheet(0, records(0, &["ONE", "ONE"])));
-    let why = Refusal { number: 19, place: 18 };
-    assert_eq!((section(&good, 0), section(&bad, 0)), ((0, 1, 34), (19, 0, 0)));
-    let mut out = [7; 2600];
+    let why = Refusal { number: 19, place: place(0, 1) };
+    assert_eq!((section(&good, 0), section(&bad, 0)), ((0, 1, 2 * SIZE[0]), (19, 0, 0)));
+    let mut out = [7; LONGEST_STREAM];
     assert_eq!(compile(&bad, &mut out), Err(why));
     assert_eq!(compile(&bad, &mut []), Err(why), "before 12");
     assert_eq!(notice(&bad, &good, &mut out), Err(NoticeRefusal::Old(why)));
     assert_eq!(notice(&good, &bad, &mut out), Err(NoticeRefusal::New(why)));
     assert_eq!(notice(&bad, &[], &mut out), Err(NoticeRefusal::Old(why)));
-    assert_eq!(out, [7; 2600]);
+    assert_eq!(out, [7; LONGEST_STREAM]);
     // that a label stands on both sheets is nothing, in another slot too
     let swapped = sheet(0, records(0, &["TWO", "ONE"]));
     assert_eq!(notice(&good, &swapped, &mut out), Ok(26));
@@ -238,22 +235,22 @@ fn back(sheet: &[u8]) -> Vec<u8> {
 #[test]
 fn the_readers_labels() {
     for (section, slot, label) in [
-        (0, 0, b"T00     "),
-        (0, 9, b"T09     "),
-        (1, 0, b"R00     "),
-        (1, 1, b"R01     "),
-        (2, 0, b"E00     "),
-        (2, 1, b"E01     "),
-        (3, 0, b"S00     "),
-        (3, 7, b"S07     "),
-        (3, 10, b"S10     "),
-        (3, 47, b"S47     "),
-        (4, 0, b"Q00     "),
-        (4, 15, b"Q15     "),
+        (0, 0, "T00"),
+        (0, 9, "T09"),
+        (1, 0, "R00"),
+        (1, 1, "R01"),
+        (2, 0, "E00"),
+        (2, 1, "E01"),
+        (3, 0, "S00"),
+        (3, 7, "S07"),
+        (3, 10, "S10"),
+        (3, 47, "S47"),
+        (4, 0, "Q00"),
+        (4, 15, "Q15"),
     ] {
         let mut want = sheet(section, vec![record(section, slot, "DOORLOCK")]);
         let got = back(&want);
-        want[section + 2..section + 10].copy_from_slice(label);
+        want[section + 2..][..LABEL].copy_from_slice(&padded(label));
         assert_eq!(got, want);
         assert_eq!(check(&got), Ok(()));
     }
@@ -303,7 +300,7 @@ fn labelled(sheet: &[u8]) -> Vec<(usize, bool)> {
         at += 1;
         let mut met: Vec<&[u8]> = Vec::new();
         for _ in 0..count {
-            let Some(label) = sheet.get(at + 1..at + 9) else { return found };
+            let Some(label) = sheet.get(at + 1..at + DESCRIPTION) else { return found };
             found.push((at, met.contains(&label)));
             met.push(label);
             at += SIZE[section];
@@ -332,7 +329,7 @@ fn nineteen_exactly_where_a_label_stands_twice() {
             ahead.count(number);
         } else {
             let mut other = sheet;
-            other[place + 1..place + 9].copy_from_slice(b"~NOBODY~");
+            other[place + 1..place + DESCRIPTION].copy_from_slice(&padded("~NOBODY~"));
             beside.count(check(&other).err().filter(|next| next.place == place).map_or(0, |next| next.number));
         }
     }

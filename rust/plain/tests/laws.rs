@@ -389,7 +389,7 @@ fn notices_have_every_line() {
         }
     }
     let kinds = ["TERM", "RANG", "EDGE", "SUMS", "STAT"];
-    let verdicts: [&[&str]; 5] = [
+    let verdicts: [&[&str]; SECTIONS] = [
         &["NEW", "GONE", "NAME", "ALTR", "WORD"],
         &["NEW", "GONE", "NAME", "ALTR", "WORD"],
         &["NEW", "GONE", "NAME", "ALTR"],
@@ -410,15 +410,17 @@ fn notices_have_every_line() {
 fn damaged_edges_are_refused_or_just_not() {
     let mut random = Random(16);
     let mut setup = Setup::default();
-    setup.sections[2].push([&[0][..], b"NOTHING ", &[0; 12]].concat());
+    setup.sections[2].push([&[0][..], &make::padded("NOTHING"), &[0; 12]].concat());
     let (mut refused, mut asked) = (0, [0; 2]); // with 9; accepted, and asking on a line for neither and rise, and fall
     for _ in 0..20_000 {
         let sheet = make::damaged_sheet(&mut random, &setup);
         match check(&sheet) {
             Err(refusal) => refused += usize::from(refusal.number == 9),
             Ok(()) => {
-                let lines = |at: usize| u32::from_le_bytes(sheet[at..at + 4].try_into().expect("four bytes"));
-                let (rise, fall, neither) = (lines(12), lines(16), lines(20));
+                // three counts and the record's slot and label stand before it
+                let edge = &sheet[3 + DESCRIPTION..];
+                let lines = |at: usize| u32::from_le_bytes(edge[at..at + 4].try_into().expect("four bytes"));
+                let (rise, fall, neither) = (lines(0), lines(4), lines(8));
                 asked[0] += usize::from(neither & rise != 0);
                 asked[1] += usize::from(neither & fall != 0);
             }

@@ -1,7 +1,7 @@
 //! The bench of the plain implementation: each number of its rules as an example, and what is promised of pieces.
-use plain::make::{Random, Setup, Tally};
+use plain::make::{padded, Random, Setup, Tally};
 use plain::programmes::{self, programme};
-use plain::{bench, bench_words, check, Refusal, Run, MOST_SAMPLES};
+use plain::{bench, bench_words, check, Refusal, Run, MOST_SAMPLES, SECTIONS};
 
 /// What a sample of these tests does by its lowest lines; every state's sums are so (see `sums`).
 const HIT: u32 = 1;
@@ -16,7 +16,7 @@ fn refusal<T>(number: u8, place: usize) -> Result<T, Refusal> {
 
 fn add(setup: &mut Setup, section: usize, slot: u8, description: &[u8]) {
     let mut record = vec![slot];
-    record.extend(format!("LABEL {slot:02}").bytes());
+    record.extend(padded(&format!("LABEL {slot:02}")));
     record.extend(description);
     setup.sections[section].push(record);
 }
@@ -399,17 +399,17 @@ fn room_for_the_words_taken() {
 
 #[test]
 fn which_refusal_comes() {
-    let (sheet, refused) = (sums(&[0]).sheet(), [0; 4]);
+    let (sheet, refused) = (sums(&[0]).sheet(), [0; SECTIONS - 1]);
     let (many, few) = (vec![TAKE; MOST_SAMPLES + 1], [TAKE]);
     let judged = |sheet: &[u8], samples, run| bench(sheet, samples, run, &mut []);
-    assert_eq!(judged(&refused, &many[..], in_state(16, 0)), refusal(1, 4));
+    assert_eq!(judged(&refused, &many[..], in_state(16, 0)), refusal(1, SECTIONS - 1));
     assert_eq!(judged(&sheet, &many[..], in_state(16, 0)), refusal(20, 4096));
     assert_eq!(judged(&sheet, &few[..], in_state(16, 0)), refusal(24, 0));
     assert_eq!(judged(&sheet, &few[..], FRESH), refusal(12, 1));
     assert_eq!(judged(&sheet, &[], FRESH), Ok((0, FRESH)));
     // words that are no run are refused where a bad run is
     let words = |sheet: &[u8], samples| bench_words(sheet, samples, &mut [0; 4], &mut []);
-    assert_eq!(words(&refused, &many[..]), refusal(1, 4));
+    assert_eq!(words(&refused, &many[..]), refusal(1, SECTIONS - 1));
     assert_eq!(words(&sheet, &many[..]), refusal(20, 4096));
     assert_eq!(words(&sheet, &few[..]), refusal(24, 0));
 }
@@ -425,7 +425,7 @@ fn a_run_in_words() {
     }
     for no_run in [[0, 0, 2, 0, 0], [0, 0, 0, 0, 2], [0, 0, u32::MAX, 1, 0], [0, 0, 0, 1, 0], [0, 0, 0, u32::MAX, 1]] {
         assert_eq!(run(&no_run), None);
-        assert_eq!(bench_words(&[0; 5], &[], &mut no_run.clone(), &mut []), refusal(24, 0));
+        assert_eq!(bench_words(&[0; SECTIONS], &[], &mut no_run.clone(), &mut []), refusal(24, 0));
     }
     for words in [[0; 5], [15, 0xF_FFFE, 1, 5, 1], [7, 0, 0, 0, 1], [1, 2, 1, u32::MAX, 0]] {
         assert_eq!(run(&words).expect("a run").words(), words);
