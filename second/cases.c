@@ -6,19 +6,20 @@
 #include <stdlib.h>
 #include <string.h>
 
-#define TERMS 10
-#define RANGES 2
-#define EDGES 2
-#define SUMS 48
-#define STATES 16
-#define LONGEST_SHEET 1571
+/* The bytes of a label. */
+enum { LABEL = 8 };
+
+/* A section with all its records: a count, and for each slot the slot, the label and so many bytes more. */
+#define SECTION(most, more) (1 + (most) * (1 + LABEL + (more)))
+#define LONGEST_SHEET                                                                                                  \
+    (SECTION(TERMS, 8) + SECTION(RANGES, 12) + SECTION(EDGES, 12) + SECTION(SUMS, 11) + SECTION(STATES, 13))
 #define END_MARK 0xFFFFu
 
-struct term { int slot; uint8_t label[8]; uint32_t target, mask; };
-struct range { int slot; uint8_t label[8]; uint32_t lower, upper, mask; };
-struct edge { int slot; uint8_t label[8]; uint32_t rise, fall, neither; };
-struct sum { int slot; uint8_t label[8]; uint8_t op[11]; };
-struct state { int slot; uint8_t label[8]; struct conduct conduct; };
+struct term { int slot; uint8_t label[LABEL]; uint32_t target, mask; };
+struct range { int slot; uint8_t label[LABEL]; uint32_t lower, upper, mask; };
+struct edge { int slot; uint8_t label[LABEL]; uint32_t rise, fall, neither; };
+struct sum { int slot; uint8_t label[LABEL]; uint8_t op[11]; };
+struct state { int slot; uint8_t label[LABEL]; struct conduct conduct; };
 
 struct setup {
     int terms, ranges, edges, sums, states;
@@ -88,7 +89,7 @@ static void fail(const char *what)
 
 static void random_label(uint8_t *label)
 {
-    for (int i = 0; i < 8; i++)
+    for (int i = 0; i < LABEL; i++)
         label[i] = (uint8_t)(0x20 + random_below(0x5F));
 }
 
@@ -257,7 +258,7 @@ static void put_number(uint32_t n)
 }
 
 /* the labels of the section that is being put, each of them another */
-static uint8_t labels[SUMS][8];
+static uint8_t labels[SUMS][LABEL];
 static int labels_put;
 
 static void put_count(int count)
@@ -269,11 +270,11 @@ static void put_count(int count)
 static void put_head(int slot, const uint8_t *label)
 {
     for (int i = 0; i < labels_put; i++)
-        if (memcmp(labels[i], label, 8) == 0)
+        if (memcmp(labels[i], label, LABEL) == 0)
             fail("a label that its section has already");
-    memcpy(labels[labels_put++], label, 8);
+    memcpy(labels[labels_put++], label, LABEL);
     put_byte((uint32_t)slot);
-    for (int i = 0; i < 8; i++)
+    for (int i = 0; i < LABEL; i++)
         put_byte(label[i]);
 }
 
@@ -556,11 +557,11 @@ static void deed_cases(void)
     }
 }
 
-/* Eight times the given byte for the first record of a section; for each later one that with one byte changed. */
+/* Nothing but the given byte for the first record of a section; for each later one that with one byte changed. */
 static void set_label(uint8_t *label, uint8_t byte, int record)
 {
-    int place = (record + 7) % 8, change = (record + 7) / 8;
-    memset(label, byte, 8);
+    int place = (record + LABEL - 1) % LABEL, change = (record + LABEL - 1) / LABEL;
+    memset(label, byte, LABEL);
     label[place] = (uint8_t)(byte == 0x7E ? byte - change : byte + change);
 }
 
@@ -614,36 +615,53 @@ static void random_case(uint32_t taken)
 }
 
 /* Two records in each section, which have these two labels. */
-static void two_labels(const char *first, const char *second)
+static void two_labels(const uint8_t *first, const uint8_t *second)
 {
     struct setup s = nothing;
     for (int i = 0; i < 2; i++) {
-        const char *label = i == 0 ? first : second;
+        const uint8_t *label = i == 0 ? first : second;
         add_random_term(&s, i);
         add_random_range(&s, i);
         add_random_edge(&s, i);
         add_random_sum(&s, i);
         add_random_state(&s, i);
-        memcpy(s.term[i].label, label, 8);
-        memcpy(s.range[i].label, label, 8);
-        memcpy(s.edge[i].label, label, 8);
-        memcpy(s.sum[i].label, label, 8);
-        memcpy(s.state[i].label, label, 8);
+        memcpy(s.term[i].label, label, LABEL);
+        memcpy(s.range[i].label, label, LABEL);
+        memcpy(s.edge[i].label, label, LABEL);
+        memcpy(s.sum[i].label, label, LABEL);
+        memcpy(s.state[i].label, label, LABEL);
     }
     write_case(&s);
 }
 
-/* Labels that differ in one byte alone, each of the eight in turn; in their padding; a blank one, first and last. */
+/* A name with spaces behind it. */
+static void set_name(uint8_t *label, const char *name)
+{
+    memset(label, ' ', LABEL);
+    memcpy(label, name, strlen(name));
+}
+
+/* A name, and the same with another byte at one place. */
+static void one_byte_apart(const char *name, int place, uint8_t byte)
+{
+    uint8_t first[LABEL], second[LABEL];
+    set_name(first, name);
+    set_name(second, name);
+    second[place] = byte;
+    two_labels(first, second);
+}
+
+/* Labels that differ in one byte alone, each of them in turn; in their padding; a blank one, first and last. */
 static void label_cases(void)
 {
-    for (int place = 0; place < 8; place++) {
-        char other[9] = "DOORLOCK";
-        other[place] = '-';
-        two_labels("DOORLOCK", other);
-    }
-    two_labels("AB      ", "AB     .");
-    two_labels("        ", "       !");
-    two_labels("BLANK   ", "        ");
+    uint8_t blank[LABEL], named[LABEL];
+    for (int place = 0; place < LABEL; place++)
+        one_byte_apart("DOORLOCK", place, '-');
+    one_byte_apart("AB", LABEL - 1, '.');
+    one_byte_apart("", LABEL - 1, '!');
+    set_name(blank, "");
+    set_name(named, "BLANK");
+    two_labels(named, blank);
 }
 
 int main(int count, char **names)

@@ -5,8 +5,14 @@
 #include <stddef.h>
 #include <stdint.h>
 
-/* No sheet needs more: 16 states, 10 terms, 2 ranges, 2 edges and 48 sums. */
-#define LONGEST_STREAM 2520
+/* The most records of each section. */
+enum { TERMS = 10, RANGES = 2, EDGES = 2, SUMS = 48, STATES = 16 };
+
+/* The commands of one record: for each chain a select and its words. No sheet needs more than all its slots. */
+enum { TERM_SENT = 1 + 4, RANGE_SENT = 2 * (1 + 16), EDGE_SENT = 1 + 8, SUM_SENT = 1 + 6, STATE_SENT = 1 + 1 };
+enum { COMMAND = 5 };
+#define LONGEST_STREAM                                                                                                 \
+    (COMMAND * (TERMS * TERM_SENT + RANGES * RANGE_SENT + EDGES * EDGE_SENT + SUMS * SUM_SENT + STATES * STATE_SENT))
 
 /* What was sent since begin_stream. */
 extern uint8_t sent[LONGEST_STREAM];

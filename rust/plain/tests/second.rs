@@ -1,7 +1,7 @@
 //! The compiler of the plain implementation gives what the second program (second/) sends, on every stored case, and
 //! reading that back gives the sheet with the reader's labels and targets cut to their masks.
 use plain::make::read_back;
-use plain::{check, compile, read, LONGEST_STREAM};
+use plain::{check, compile, read, LABEL, LONGEST_STREAM};
 
 fn length(data: &[u8], at: usize) -> usize {
     usize::from(u16::from_le_bytes([data[at], data[at + 1]]))
@@ -29,5 +29,5 @@ fn compile_sends_what_the_second_program_sends() {
         cases += 1;
     }
     assert_eq!(at + 2, data.len(), "nothing follows the end mark");
-    assert_eq!(cases, 577);
+    assert_eq!(cases, 569 + LABEL, "one for each byte of a label, and 569 others");
 }
