@@ -24,8 +24,8 @@ impl Pair {
         let mut old = Setup::random(random, 8);
         let mut new = old.clone();
         for (slot, sum) in sums.iter().enumerate() {
-            old.sections[3][slot][9..].copy_from_slice(&sum.0);
-            new.sections[3][slot][9..].copy_from_slice(&sum.1);
+            old.sections[3][slot][plain::DESCRIPTION..].copy_from_slice(&sum.0);
+            new.sections[3][slot][plain::DESCRIPTION..].copy_from_slice(&sum.1);
         }
         Pair { old: old.sheet(), new: new.sheet(), sums }
     }

@@ -14,10 +14,8 @@
 use std::error::Error;
 use std::fmt;
 
-/// Room for the longest sheet, the most commands and the longest notice.
-pub const LONGEST_SHEET: usize = 1571;
-pub const LONGEST_STREAM: usize = 2520;
-pub const LONGEST_NOTICE: usize = 2412;
+mod lengths;
+pub use lengths::{LABEL, LONGEST_NOTICE, LONGEST_SHEET, LONGEST_STREAM, SECTIONS};
 
 /// The most samples that one call of [`bench()`] takes.
 pub const MOST_SAMPLES: usize = 4096;
@@ -161,7 +159,7 @@ fn answer<T>(number: u8, place: usize, done: T) -> Result<T, Refusal> {
 /// Judges a sheet.
 ///
 /// ```
-/// assert_eq!(voltamar::check(&[0, 0, 0, 0, 0]), Ok(()));
+/// assert_eq!(voltamar::check(&[0; voltamar::SECTIONS]), Ok(()));
 /// assert_eq!(voltamar::check(&[11]), Err(voltamar::Refusal { number: 2, place: 0 }));
 /// ```
 #[inline]
@@ -198,13 +196,13 @@ pub fn compile(sheet: &[u8], out: &mut [u8]) -> Result<usize, Refusal> {
 }
 
 /// Writes the sheet that a command stream sets up to the start of `out` and answers its length. Targets are cut to
-/// their masks. A label is the letter of its section (T, R, E, S, Q), the slot in two digits, and five spaces.
+/// their masks. A label is the letter of its section (T, R, E, S, Q), the slot in two digits, and spaces.
 ///
 /// ```
 /// let mut out = [0; voltamar::LONGEST_SHEET];
 /// assert_eq!(voltamar::read(&[0x9E, 15, 0, 0, 0, 0x9F, 1, 0, 0, 0], &mut out), Ok(27)); // a state in slot 15
 /// assert_eq!(out[4..18], *b"\x01\x0FQ15     \x01\x00\x00\x00");
-/// assert_eq!(voltamar::read(&[], &mut out), Ok(5)); // an empty stream gives five zero bytes
+/// assert_eq!(voltamar::read(&[], &mut out), Ok(voltamar::SECTIONS)); // an empty stream gives nothing but counts of 0
 /// assert_eq!(voltamar::read(&[0x9F, 0, 0, 0, 0], &mut out), Err(voltamar::Refusal { number: 14, place: 0 }));
 /// ```
 #[inline]

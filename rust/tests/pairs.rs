@@ -92,7 +92,7 @@ fn every_two_wishes_of_two_lines() {
         let (lower, upper) = (both % 7, both / 7);
         let lines = |event: u32| (lower >> event & 1) << 1 | (upper >> event & 1) << 30;
         let edge = [0, 1, 2].map(|event| lines(event).to_le_bytes()).concat();
-        [&[0, 0, 1, 0][..], b"TWOLINES", &edge, &[0, 0]].concat()
+        make::one_section(2, vec![make::record(0, "TWOLINES", &edge)])
     };
     for all in 0..49 * 49 {
         let (old, new) = (sheet(all / 49), sheet(all % 49));
@@ -110,9 +110,7 @@ fn full(letter: char, descriptions: [Vec<u8>; plain::SECTIONS]) -> Vec<u8> {
     for (most, description) in plain::MOST.into_iter().zip(descriptions) {
         sheet.push(most);
         for slot in 0..most {
-            sheet.push(slot);
-            sheet.extend(format!("{letter}{slot:02}     ").bytes());
-            sheet.extend(&description);
+            sheet.extend(make::record(slot, &format!("{letter}{slot:02}"), &description));
         }
     }
     sheet
@@ -127,7 +125,7 @@ fn the_longest_notice() {
     let new = full('B', [numbers(&[1, 1]), numbers(&[1, 1, 2]), numbers(&[0, 1, 0]), vec![1; 11], state(1)]);
     let mut out = [0; voltamar::LONGEST_NOTICE];
     let short = voltamar::notice(&old, &new, &mut out[1..]);
-    assert_eq!(short, Err(voltamar::NoticeRefusal::Short { needed: 2412 }));
-    assert_eq!(voltamar::notice(&old, &new, &mut out), Ok(2412));
+    assert_eq!(short, Err(voltamar::NoticeRefusal::Short { needed: out.len() }));
+    assert_eq!(voltamar::notice(&old, &new, &mut out), Ok(out.len()));
     assert_eq!(plain::notice_agrees(&old, &new, &out, plain::scan_telling_sum), Ok(()));
 }

@@ -44,7 +44,7 @@ fn check_and_section_agree() {
         assert_eq!(got, want, "sheet {sheet:02X?}");
         proved.count(number(&got));
         plain.count(number(&want));
-        for section in [0, 1, 2, 3, 4, 5, random.u8()] {
+        for section in (0..=plain::SECTIONS as u8).chain([random.u8()]) {
             let (mut start, mut length) = (usize::MAX, usize::MAX);
             // SAFETY: the sheet's own pointer and length, and two locals.
             let answer = unsafe { voltamar_section(sheet.as_ptr(), sheet.len(), section, &mut start, &mut length) };
@@ -88,13 +88,13 @@ fn every_two_labels_agree() {
         for later in 0..setup.sections[section].len() {
             for earlier in 0..later {
                 let mut setup = setup.clone();
-                let label = setup.sections[section][earlier][1..9].to_vec();
-                setup.sections[section][later][1..9].copy_from_slice(&label);
+                let label = setup.sections[section][earlier][1..plain::DESCRIPTION].to_vec();
+                setup.sections[section][later][1..plain::DESCRIPTION].copy_from_slice(&label);
                 let place = setup.count_at(section) + 1 + later * size;
                 let mut sheet = setup.sheet();
                 assert_eq!(voltamar::check(&sheet).map_err(pair), Err((19, place)), "sheet {sheet:02X?}");
                 assert_eq!(plain::check(&sheet).map_err(plain_pair), Err((19, place)), "sheet {sheet:02X?}");
-                let byte = &mut sheet[place + 1 + random.below(8)];
+                let byte = &mut sheet[place + 1 + random.below(plain::LABEL)];
                 *byte = if *byte == 0x7E { 0x7D } else { *byte + 1 };
                 let want = plain::check(&sheet).map_err(plain_pair);
                 assert_eq!(voltamar::check(&sheet).map_err(pair), want, "sheet {sheet:02X?}");

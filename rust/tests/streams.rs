@@ -39,6 +39,7 @@ fn read_agrees() {
 #[test]
 fn every_table_of_an_edge_agrees() {
     let mut random = Random(0xBF58_476D_1CE4_E5B9);
+    const LENGTH: usize = plain::SECTIONS + plain::SIZE[2];
     let mut read = 0;
     for all in 0..2 * 0x1_0000 {
         let (table, half) = (all as u16, 1 + 2 * (all >> 16));
@@ -47,11 +48,11 @@ fn every_table_of_an_edge_agrees() {
             plain::edge_words(rise, fall, neither).map(|word| [vec![0x9F], word.to_le_bytes().to_vec()].concat());
         let mut stream = [&[0x9E, 0x34, 0, 0, 0][..], &words.concat()].concat();
         stream[5 * (1 + random.below(8)) + half..][..2].copy_from_slice(&table.to_le_bytes());
-        let (mut a, mut b) = ([0x77; 26], [0x77; 26]);
+        let (mut a, mut b) = ([0x77; LENGTH], [0x77; LENGTH]);
         let got = voltamar::read(&stream, &mut a).map_err(|refusal| (refusal.number, refusal.place));
         let want = plain::read(&stream, &mut b).map_err(|refusal| (refusal.number, refusal.place));
         assert_eq!((got, a), (want, b), "stream {stream:02X?}");
-        assert!(matches!(got, Ok(26) | Err((16, 0))), "{got:?}");
+        assert!(matches!(got, Ok(LENGTH) | Err((16, 0))), "{got:?}");
         read += usize::from(got.is_ok());
     }
     assert_eq!(read, 2 * 49);

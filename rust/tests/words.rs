@@ -175,7 +175,7 @@ const B: u8 = 9;
 
 /// The words that the proved compiler sends for a sum.
 fn sent(operations: [u8; 11]) -> Vec<u32> {
-    let sheet = [&[0, 0, 0, 1, 0][..], b"A SUM   ", &operations, &[0]].concat();
+    let sheet = make::one_section(3, vec![make::record(0, "A SUM", &operations)]);
     let mut commands = [0; voltamar::LONGEST_STREAM];
     let length = voltamar::compile(&sheet, &mut commands).expect("accepted, with room");
     let number = |command: &[u8]| u32::from_le_bytes([command[1], command[2], command[3], command[4]]);

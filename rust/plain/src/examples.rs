@@ -1,14 +1,12 @@
 //! The files of examples/: sample sheets and what the calls give for them, of the lift also for a recording.
-use crate::make::{self, padded, Setup};
+use crate::make::{self, Setup};
 use crate::sheet;
 use crate::{bench, notice, read, Run, DESCRIPTION, LONGEST_NOTICE, LONGEST_SHEET, SECTIONS, SIZE};
 use std::fmt::Write;
 
 /// Adds a record to a section of a sheet in the making.
 fn add(setup: &mut Setup, section: usize, slot: u8, label: &str, description: &[u8]) {
-    let mut record = vec![slot];
-    record.extend(padded(label));
-    record.extend(description);
+    let record = make::record(slot, label, description);
     assert_eq!(record.len(), SIZE[section], "{label}");
     setup.sections[section].push(record);
 }

@@ -241,6 +241,18 @@ pub fn padded(name: &str) -> Label {
     format!("{name:<LABEL$}").into_bytes().try_into().expect("no name is longer than a label")
 }
 
+/// The bytes of a record.
+pub fn record(slot: u8, name: &str, description: &[u8]) -> Vec<u8> {
+    [&[slot][..], &padded(name), description].concat()
+}
+
+/// A sheet with the records of one section.
+pub fn one_section(section: usize, records: Vec<Vec<u8>>) -> Vec<u8> {
+    let mut setup = Setup::default();
+    setup.sections[section] = records;
+    setup.sheet()
+}
+
 fn label_byte(random: &mut Random) -> u8 {
     match random.below(8) {
         0 => 0x20,

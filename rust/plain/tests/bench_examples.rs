@@ -1,5 +1,5 @@
 //! The bench examples of the rules, those marked P and the others, on the plain implementation.
-use plain::make::{padded, Setup};
+use plain::make::{self, padded, Setup};
 use plain::{check, compile, gather, notice, notice_agrees, read, scan_telling_sum, section, Refusal};
 use plain::{edge_hit, range_hit, run_edge, run_range, telling_sum, term_hit};
 use plain::{edge_words, range_words, state_word, sum_words, term_words};
@@ -16,10 +16,7 @@ fn refusal<T>(number: u8, place: usize) -> Result<T, Refusal> {
 }
 
 fn record(slot: u8, label: &str, numbers: &[u32]) -> Vec<u8> {
-    let mut record = vec![slot];
-    record.extend(padded(label));
-    record.extend(numbers.iter().flat_map(|n| n.to_le_bytes()));
-    record
+    make::record(slot, label, &numbers.iter().flat_map(|n| n.to_le_bytes()).collect::<Vec<u8>>())
 }
 
 /// A label for each slot, where a section has several records.

@@ -1,5 +1,5 @@
 //! Labels: no two of a section are the same (19), and what the reader writes for them.
-use plain::make::{self, padded, Random, Setup, Tally};
+use plain::make::{self, one_section as sheet, padded, Random, Setup, Tally};
 use plain::{check, compile, notice, read, section, NoticeRefusal, Refusal};
 use plain::{DESCRIPTION, LABEL, LONGEST_NOTICE, LONGEST_SHEET, LONGEST_STREAM, MOST, SECTIONS, SIZE};
 
@@ -9,8 +9,7 @@ fn refusal(number: u8, place: usize) -> Result<(), Refusal> {
 
 /// A record without faults; the label is filled up with spaces. Bytes of 0 are a description but for a range.
 fn record(section: usize, slot: u8, label: &str) -> Vec<u8> {
-    let mut record = vec![slot];
-    record.extend(padded(label));
+    let mut record = make::record(slot, label, &[]);
     record.resize(SIZE[section], 0);
     if section == 1 {
         [0, 4, 8].iter().for_each(|&number| record[DESCRIPTION + number] = 1);
@@ -21,13 +20,6 @@ fn record(section: usize, slot: u8, label: &str) -> Vec<u8> {
 /// Records with these labels, from slot 0 on.
 fn records(section: usize, labels: &[&str]) -> Vec<Vec<u8>> {
     labels.iter().zip(0..).map(|(label, slot)| record(section, slot, label)).collect()
-}
-
-/// A sheet with the records of one section.
-fn sheet(section: usize, records: Vec<Vec<u8>>) -> Vec<u8> {
-    let mut setup = Setup::default();
-    setup.sections[section] = records;
-    setup.sheet()
 }
 
 fn judged(section: usize, labels: &[&str]) -> Result<(), Refusal> {
@@ -158,7 +150,7 @@ fn nineteen_comes_behind_slot_and_label_bytes() {
         assert_eq!(check(&sheet[..end]), refusal(19, place(section, 1)));
         assert_eq!(check(&[&sheet[..], &[0]].concat()), refusal(19, place(section, 1)), "before bytes left over");
         let many = vec![record(section, 0, "ONE"); usize::from(MOST[section]) + 1];
-        assert_eq!(check(&self::sheet(section, many)), refusal(2, section));
+        assert_eq!(check(&make::one_section(section, many)), refusal(2, section));
     }
 }
 

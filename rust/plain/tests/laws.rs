@@ -410,7 +410,7 @@ fn notices_have_every_line() {
 fn damaged_edges_are_refused_or_just_not() {
     let mut random = Random(16);
     let mut setup = Setup::default();
-    setup.sections[2].push([&[0][..], &make::padded("NOTHING"), &[0; 12]].concat());
+    setup.sections[2].push(make::record(0, "NOTHING", &[0; 12]));
     let (mut refused, mut asked) = (0, [0; 2]); // with 9; accepted, and asking on a line for neither and rise, and fall
     for _ in 0..20_000 {
         let sheet = make::damaged_sheet(&mut random, &setup);

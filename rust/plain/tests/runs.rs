@@ -1,5 +1,5 @@
 //! The bench of the plain implementation: each number of its rules as an example, and what is promised of pieces.
-use plain::make::{padded, Random, Setup, Tally};
+use plain::make::{record, Random, Setup, Tally};
 use plain::programmes::{self, programme};
 use plain::{bench, bench_words, check, Refusal, Run, MOST_SAMPLES, SECTIONS};
 
@@ -15,10 +15,7 @@ fn refusal<T>(number: u8, place: usize) -> Result<T, Refusal> {
 }
 
 fn add(setup: &mut Setup, section: usize, slot: u8, description: &[u8]) {
-    let mut record = vec![slot];
-    record.extend(padded(&format!("LABEL {slot:02}")));
-    record.extend(description);
-    setup.sections[section].push(record);
+    setup.sections[section].push(record(slot, &format!("LABEL {slot:02}"), description));
 }
 
 fn numbers(numbers: &[u32]) -> Vec<u8> {
