@@ -43,27 +43,72 @@ static size_t old_length, new_length, lift_length, wanted_length;
 
 static void clear(void) { memset(out, UNTOUCHED, SPACE); }
 
+/* What all sizes and offsets below follow from: the bytes of a label and the number of sections. */
+enum { LABEL = 8, SECTIONS = 5 };
+
+/* the bytes before a record's description, and those of a record */
+enum { HEAD = 1 + LABEL, TERM = HEAD + 8, RANGE = HEAD + 12, EDGE = HEAD + 12, SUM = HEAD + 11, STATE = HEAD + 13 };
+
+static const uint8_t empty_sheet[SECTIONS] = {0};
+
+/* a name with spaces behind it */
+static void put_label(uint8_t *label, const char *name) {
+    memset(label, ' ', LABEL);
+    memcpy(label, name, strlen(name));
+}
+
+/* puts a record of so many bytes, and answers how many */
+static size_t put_record(uint8_t *record, uint8_t slot, const char *name, const uint8_t *description, size_t size) {
+    record[0] = slot;
+    put_label(record + 1, name);
+    memcpy(record + HEAD, description, size - HEAD);
+    return size;
+}
+
+/* a sheet with one record, which begins at section + 1; answers the sheet's length */
+static size_t one_record(uint8_t *sheet, int section, uint8_t slot, const char *name, const uint8_t *description, size_t size) {
+    memset(sheet, 0, SECTIONS + size);
+    sheet[section] = 1;
+    return SECTIONS + put_record(sheet + section + 1, slot, name, description, size);
+}
+
 /* a range 0..9 over four lines: refusal 6 at the record, offset 2 */
-enum { REFUSED = 26 };
-static const uint8_t lower_zero[REFUSED] = {0, 1, 0, 'R', 'A', 'N', 'G', 'E', ' ', ' ', ' ', 0, 0, 0, 0, 9, 0, 0, 0, 15};
+static uint8_t lower_zero[SPACE];
+static size_t refused_length;
+
+static void make_refused(void) {
+    static const uint8_t range[RANGE - HEAD] = {0, 0, 0, 0, 9, 0, 0, 0, 15};
+    refused_length = one_record(lower_zero, 1, 0, "RANGE", range, RANGE);
+}
+
+/* The lift has 9 terms, 2 ranges, 2 edges, 12 sums and 4 states: where some of its records begin. */
+enum {
+    LIFT_LAST_TERM = 1 + 8 * TERM,
+    LIFT_RANGES = 1 + 9 * TERM + 1,
+    LIFT_STATES = LIFT_RANGES + 2 * RANGE + 1 + 2 * EDGE + 1 + 12 * SUM + 1,
+    LIFT_LAST_STATE = LIFT_STATES + 3 * STATE
+};
 
 static void check_and_section(void) {
     size_t place = 99, start = 99, length = 99;
     expect(voltamar_check(old_sheet, old_length, &place) == 0 && place == 0, "check: accepted");
-    expect(voltamar_check(lower_zero, REFUSED, &place) == 6 && place == 2, "check: refused");
+    expect(voltamar_check(lower_zero, refused_length, &place) == 6 && place == 2, "check: refused");
     expect(voltamar_check(NULL, 0, &place) == 1 && place == 0, "check: no bytes at all");
-    expect(voltamar_check(old_sheet, old_length - 1, &place) == 1 && place == old_length - 1, "check: four sections");
-    expect(voltamar_check((const uint8_t[5]){0, 0, 0, 0, 0}, 5, &place) == 0 && place == 0, "check: five zero bytes");
+    expect(voltamar_check(old_sheet, old_length - 1, &place) == 1 && place == old_length - 1, "check: the last section is missing");
+    expect(voltamar_check(empty_sheet, SECTIONS, &place) == 0 && place == 0, "check: nothing but counts of 0");
 
-    expect(voltamar_section(old_sheet, old_length, 0, &start, &length) == 0 && start == 1 && length == 34, "section: terms");
-    expect(voltamar_section(old_sheet, old_length, 1, &start, &length) == 0 && start == 36 && length == 21, "section: ranges");
+    expect(voltamar_section(old_sheet, old_length, 0, &start, &length) == 0 && start == 1 && length == 2 * TERM, "section: terms");
+    expect(voltamar_section(old_sheet, old_length, 1, &start, &length) == 0 && start == 1 + 2 * TERM + 1 && length == RANGE,
+           "section: ranges");
     start = length = 99;
     expect(voltamar_section(old_sheet, old_length, 2, &start, &length) == 0 && start == 0 && length == 0, "section: empty");
     start = length = 99;
-    expect(voltamar_section(old_sheet, old_length, 5, &start, &length) == 0 && start == 0 && length == 0, "section: above 4");
-    expect(voltamar_section(lift, lift_length, 4, &start, &length) == 0 && start == 482 && length == 88, "section: states");
+    expect(voltamar_section(old_sheet, old_length, SECTIONS, &start, &length) == 0 && start == 0 && length == 0,
+           "section: above the last");
+    expect(voltamar_section(lift, lift_length, 4, &start, &length) == 0 && start == LIFT_STATES && length == 4 * STATE,
+           "section: states");
     start = length = 99;
-    expect(voltamar_section(lower_zero, REFUSED, 1, &start, &length) == 6 && start == 0 && length == 0, "section: refused");
+    expect(voltamar_section(lower_zero, refused_length, 1, &start, &length) == 6 && start == 0 && length == 0, "section: refused");
 }
 
 static void compile_and_read(void) {
@@ -75,7 +120,7 @@ static void compile_and_read(void) {
     clear();
     expect(voltamar_compile(lift, lift_length, out, wanted_length - 1, &place) == 12 && place == wanted_length, "compile: 12");
     expect(holds(out, NULL, 0), "compile: 12 writes nothing");
-    expect(voltamar_compile(lower_zero, REFUSED, out, SPACE, &place) == 6 && place == 2 && holds(out, NULL, 0), "compile: refused");
+    expect(voltamar_compile(lower_zero, refused_length, out, SPACE, &place) == 6 && place == 2 && holds(out, NULL, 0), "compile: refused");
 
     uint8_t stream[SPACE];
     size_t stream_length = load("lift.commands", stream);
@@ -95,49 +140,50 @@ static void compile_and_read(void) {
     for (size_t at = 45; at < 65; at += 5) memset(stream + at + 1, 0, 4);
     expect(voltamar_read(stream, stream_length, out, SPACE, &place) == 16 && place == 40, "read: 16");
     expect(holds(out, NULL, 0), "read: refusals write nothing");
-    expect(voltamar_read(NULL, 0, out, SPACE, &place) == 0 && place == 5, "read: an empty stream");
-    expect(holds(out, (const uint8_t[5]){0, 0, 0, 0, 0}, 5), "read: five zero bytes");
+    expect(voltamar_read(NULL, 0, out, SPACE, &place) == 0 && place == SECTIONS, "read: an empty stream");
+    expect(holds(out, empty_sheet, SECTIONS), "read: nothing but counts of 0");
 }
 
 /* a state in slot 15: number FFFFF hex, else state 15, start timer 1, trigger */
 static void states(void) {
-    uint8_t sheet[27] = {0, 0, 0, 0, 1, 15, 'S', 'T', 'A', 'T', 'E', ' ', ' ', ' ', 0xFF, 0xFF, 0x0F, 0, 15};
+    enum { LENGTH = SECTIONS + STATE, RECORD = 4 + 1 };
+    const uint8_t state[STATE - HEAD] = {0xFF, 0xFF, 0x0F, 0, 15, 0, 0, 0, 0, 1, 0, 1, 0};
     const uint8_t commands[10] = {0x9E, 15, 0, 0, 0, 0x9F, 0xFF, 0xFF, 0xFF, 0x50};
+    uint8_t sheet[LENGTH], back[LENGTH];
     size_t place = 99;
     uint8_t which = 99;
-    sheet[23] = sheet[25] = 1;
+    one_record(sheet, 4, 15, "STATE", state, STATE);
     clear();
-    expect(voltamar_compile(sheet, 27, out, SPACE, &place) == 0 && place == 10, "states: length of the commands");
+    expect(voltamar_compile(sheet, LENGTH, out, SPACE, &place) == 0 && place == 10, "states: length of the commands");
     expect(holds(out, commands, 10), "states: the commands");
 
-    uint8_t back[27];
-    memcpy(back, sheet, 27);
-    memcpy(back + 6, "Q15     ", 8);
+    one_record(back, 4, 15, "Q15", state, STATE);
     clear();
-    expect(voltamar_read(commands, 10, out, SPACE, &place) == 0 && place == 27, "states: length of the sheet");
-    expect(holds(out, back, 27), "states: the sheet, with its section's letter and its slot for a label");
+    expect(voltamar_read(commands, 10, out, SPACE, &place) == 0 && place == LENGTH, "states: length of the sheet");
+    expect(holds(out, back, LENGTH), "states: the sheet, with its section's letter and its slot for a label");
 
     const char *text = "STAT 15 NAME\nSTAT 15 ALTR\n";
-    back[26] = 1; /* last */
+    back[RECORD + STATE - 1] = 1; /* last */
     clear();
-    expect(voltamar_notice(sheet, 27, back, 27, out, SPACE, &which, &place) == 0 && place == 26, "states: length of the notice");
+    expect(voltamar_notice(sheet, LENGTH, back, LENGTH, out, SPACE, &which, &place) == 0 && place == 26,
+           "states: length of the notice");
     expect(holds(out, (const uint8_t *)text, 26), "states: ALTR shows no sample");
 
-    for (size_t field = 16; field < 27; field++) { /* the number's third byte and all that follow */
+    for (size_t field = RECORD + HEAD + 2; field < RECORD + STATE; field++) { /* the number's third byte and all that follow */
         uint8_t good = sheet[field];
         sheet[field] = 16;
-        expect(voltamar_check(sheet, 27, &place) == 18 && place == 5, "states: 18");
+        expect(voltamar_check(sheet, LENGTH, &place) == 18 && place == RECORD, "states: 18");
         sheet[field] = good;
     }
-    expect(voltamar_check(sheet, 27, &place) == 0 && place == 0, "states: accepted");
+    expect(voltamar_check(sheet, LENGTH, &place) == 0 && place == 0, "states: accepted");
 }
 
 /* A sheet with one edge, which asks on line 12 for these added up: 1 for rise, 2 for fall, 4 for neither. The record
  * begins at 3. */
 static uint8_t one_edge(unsigned wishes, size_t *place) {
-    uint8_t sheet[26] = {0, 0, 1, 0, 'E', 'D', 'G', 'E', ' ', ' ', ' ', ' '};
-    for (unsigned event = 0; event < 3; event++) sheet[13 + 4 * event] = (wishes >> event & 1) << 4;
-    return voltamar_check(sheet, 26, place);
+    uint8_t sheet[SECTIONS + EDGE], edge[EDGE - HEAD] = {0};
+    for (unsigned event = 0; event < 3; event++) edge[1 + 4 * event] = (wishes >> event & 1) << 4;
+    return voltamar_check(sheet, one_record(sheet, 2, 0, "EDGE", edge, EDGE), place);
 }
 
 static void edges(void) {
@@ -149,59 +195,109 @@ static void edges(void) {
     expect(one_edge(7, &place) == VOLTAMAR_ALL_ASKED && place == 3, "edges: 9");
 
     /* neither and rise on line 0; then all three, the table of every address */
-    uint8_t stream[45] = {0x9E, 0x34};
-    const uint8_t back[26] = {0, 0, 1, 0, 'E', '0', '0', ' ', ' ', ' ', ' ', ' ', 1, 0, 0, 0, 0, 0, 0, 0, 1};
+    enum { LENGTH = SECTIONS + EDGE };
+    uint8_t stream[45] = {0x9E, 0x34}, back[LENGTH];
+    const uint8_t edge[EDGE - HEAD] = {1, 0, 0, 0, 0, 0, 0, 0, 1};
+    one_record(back, 2, 0, "E00", edge, EDGE);
     for (size_t at = 5; at < 45; at += 5) stream[at] = 0x9F;
     stream[41] = stream[42] = 0xAF;
     clear();
-    expect(voltamar_compile(back, 26, out, SPACE, &place) == 0 && place == 45 && holds(out, stream, 45), "edges: the commands");
+    expect(voltamar_compile(back, LENGTH, out, SPACE, &place) == 0 && place == 45 && holds(out, stream, 45), "edges: the commands");
     clear();
-    expect(voltamar_read(stream, 45, out, SPACE, &place) == 0 && place == 26 && holds(out, back, 26), "edges: the sheet");
+    expect(voltamar_read(stream, 45, out, SPACE, &place) == 0 && place == LENGTH && holds(out, back, LENGTH), "edges: the sheet");
     stream[41] = stream[42] = 0xFF;
     clear();
     expect(voltamar_read(stream, 45, out, SPACE, &place) == 16 && place == 0 && holds(out, NULL, 0), "edges: 16");
 }
 
-/* Two sums, each with the label of eight bytes: the second one begins at 24. */
+/* where the second of two sums begins */
+enum { SECOND_SUM = 3 + 1 + SUM };
+
+/* two sums with these labels */
 static uint8_t two_sums(const char *first, const char *second, size_t *place) {
-    uint8_t sheet[45] = {0, 0, 0, 2};
-    memcpy(sheet + 5, first, 8);
-    sheet[24] = 47;
-    memcpy(sheet + 25, second, 8);
-    return voltamar_check(sheet, 45, place);
+    static const uint8_t never[SUM - HEAD] = {0};
+    uint8_t sheet[SECTIONS + 2 * SUM] = {0, 0, 0, 2};
+    put_record(sheet + SECOND_SUM - SUM, 0, first, never, SUM);
+    put_record(sheet + SECOND_SUM, 47, second, never, SUM);
+    return voltamar_check(sheet, sizeof sheet, place);
 }
 
 static void labels(void) {
     size_t place = 99, length = 99;
     uint8_t which = 99;
-    expect(two_sums("S0 LOCK ", "S0 LOCK ", &place) == VOLTAMAR_SAME_LABEL && place == 24, "labels: 19");
-    expect(two_sums("        ", "        ", &place) == 19 && place == 24, "labels: blank twice");
-    expect(two_sums("S0 LOCK ", "        ", &place) == 0 && place == 0, "labels: blank once");
-    expect(two_sums("AB      ", "AB     .", &place) == 0 && two_sums("AB      ", ".B      ", &place) == 0, "labels: all bytes count");
+    char last[LABEL + 1];
+    snprintf(last, sizeof last, "%-*s.", LABEL - 1, "AB");
+    expect(two_sums("S0 LOCK", "S0 LOCK", &place) == VOLTAMAR_SAME_LABEL && place == SECOND_SUM, "labels: 19");
+    expect(two_sums("", "", &place) == 19 && place == SECOND_SUM, "labels: blank twice");
+    expect(two_sums("S0 LOCK", "", &place) == 0 && place == 0, "labels: blank once");
+    expect(two_sums("AB", last, &place) == 0 && two_sums("AB", ".B", &place) == 0, "labels: all bytes count");
 
-    /* the last term of the lift, which begins at 137, gets the first one's label: then no call takes the sheet */
+    /* the last term of the lift gets the first one's label: then no call takes the sheet */
     uint8_t sheet[SPACE];
     memcpy(sheet, lift, SPACE);
-    memcpy(sheet + 138, sheet + 2, 8);
+    memcpy(sheet + LIFT_LAST_TERM + 1, sheet + 2, LABEL);
     clear();
-    expect(voltamar_check(sheet, lift_length, &place) == 19 && place == 137, "labels: not only the record before");
-    sheet[137] = 7;
-    expect(voltamar_check(sheet, lift_length, &place) == 4 && place == 137, "labels: 4 comes before 19");
-    sheet[137] = 9;
+    expect(voltamar_check(sheet, lift_length, &place) == 19 && place == LIFT_LAST_TERM, "labels: not only the record before");
+    sheet[LIFT_LAST_TERM] = 7;
+    expect(voltamar_check(sheet, lift_length, &place) == 4 && place == LIFT_LAST_TERM, "labels: 4 comes before 19");
+    sheet[LIFT_LAST_TERM] = 9;
     expect(voltamar_section(sheet, lift_length, 1, &place, &length) == 19 && place == 0 && length == 0, "labels: section");
-    expect(voltamar_compile(sheet, lift_length, out, SPACE, &place) == 19 && place == 137, "labels: compile");
-    expect(voltamar_notice(lift, lift_length, sheet, lift_length, out, SPACE, &which, &place) == 19 && which == 2 && place == 137,
+    expect(voltamar_compile(sheet, lift_length, out, SPACE, &place) == 19 && place == LIFT_LAST_TERM, "labels: compile");
+    expect(voltamar_notice(lift, lift_length, sheet, lift_length, out, SPACE, &which, &place) == 19 && which == 2 &&
+               place == LIFT_LAST_TERM,
            "labels: notice");
     expect(holds(out, NULL, 0), "labels: refusals write nothing");
     /* a range may have the label of a term */
     memcpy(sheet, lift, SPACE);
-    memcpy(sheet + 156, sheet + 2, 8);
+    memcpy(sheet + LIFT_RANGES + 1, sheet + 2, LABEL);
     expect(voltamar_check(sheet, lift_length, &place) == 0 && place == 0, "labels: of another section");
-    /* the states begin at 482: the last one gets the second one's label, and a flag that is 2 */
-    sheet[569] = 2;
-    expect(voltamar_check(sheet, lift_length, &place) == 18 && place == 548, "labels: another label, 18");
-    memcpy(sheet + 549, sheet + 505, 8);
-    expect(voltamar_check(sheet, lift_length, &place) == 19 && place == 548, "labels: 19 comes before 18");
+    /* the last state gets the second one's label, and a flag that is 2 */
+    sheet[LIFT_LAST_STATE + STATE - 1] = 2;
+    expect(voltamar_check(sheet, lift_length, &place) == 18 && place == LIFT_LAST_STATE, "labels: another label, 18");
+    memcpy(sheet + LIFT_LAST_STATE + 1, sheet + LIFT_STATES + STATE + 1, LABEL);
+    expect(voltamar_check(sheet, lift_length, &place) == 19 && place == LIFT_LAST_STATE, "labels: 19 comes before 18");
+}
+
+/* Of each section the most records, the bytes of one, and two descriptions that are told apart. */
+static const struct {
+    uint8_t most, size, first[STATE - HEAD], second[STATE - HEAD];
+} full[SECTIONS] = {
+    {10, TERM, {0, 0, 0, 0, 1}, {1, 0, 0, 0, 1}},
+    {2, RANGE, {1, 0, 0, 0, 1, 0, 0, 0, 1}, {1, 0, 0, 0, 1, 0, 0, 0, 2}},
+    {2, EDGE, {1}, {2}},
+    {48, SUM, {0}, {0, 0, 0, 0, 0, 0, 0, 0, 0, 0, 1}},
+    {16, STATE, {0}, {1}},
+};
+
+/* a sheet with every slot taken: the first descriptions or the second, and labels to go with them */
+static size_t full_sheet(uint8_t sheet[SPACE], int second) {
+    size_t n = 0;
+    for (int section = 0; section < SECTIONS; section++) {
+        const uint8_t *description = second ? full[section].second : full[section].first;
+        sheet[n++] = full[section].most;
+        for (uint8_t slot = 0; slot < full[section].most; slot++) {
+            char name[LABEL];
+            snprintf(name, sizeof name, "%c%02d", second ? 'B' : 'A', slot);
+            n += put_record(sheet + n, slot, name, description, full[section].size);
+        }
+    }
+    return n;
+}
+
+/* The header's three lengths: with so much room each call is done, and with one byte less it is 12. */
+static void longest(void) {
+    static uint8_t first[SPACE], second[SPACE], commands[VOLTAMAR_LONGEST_STREAM], back[VOLTAMAR_LONGEST_SHEET],
+        text[VOLTAMAR_LONGEST_NOTICE];
+    size_t n = full_sheet(first, 0), k = full_sheet(second, 1), place = 99;
+    uint8_t which = 99;
+    expect(n == VOLTAMAR_LONGEST_SHEET && k == n && voltamar_check(first, n, &place) == 0, "longest: a full sheet");
+    expect(voltamar_compile(first, n, commands, sizeof commands - 1, &place) == 12 && place == sizeof commands, "longest: compile, 12");
+    expect(voltamar_compile(first, n, commands, sizeof commands, &place) == 0 && place == sizeof commands, "longest: compile");
+    expect(voltamar_read(commands, sizeof commands, back, sizeof back - 1, &place) == 12 && place == sizeof back, "longest: read, 12");
+    expect(voltamar_read(commands, sizeof commands, back, sizeof back, &place) == 0 && place == sizeof back, "longest: read");
+    expect(voltamar_notice(first, n, second, k, text, sizeof text - 1, &which, &place) == 12 && place == sizeof text,
+           "longest: notice, 12");
+    expect(voltamar_notice(first, n, second, k, text, sizeof text, &which, &place) == 0 && place == sizeof text, "longest: notice");
 }
 
 static void notices(void) {
@@ -209,9 +305,9 @@ static void notices(void) {
     uint8_t which = 99;
     size_t place = 99;
     clear();
-    expect(voltamar_notice(old_sheet, old_length, lower_zero, REFUSED, out, SPACE, &which, &place) == 6 && which == 2 && place == 2,
+    expect(voltamar_notice(old_sheet, old_length, lower_zero, refused_length, out, SPACE, &which, &place) == 6 && which == 2 && place == 2,
            "notice: the new sheet is refused");
-    expect(voltamar_notice(lower_zero, REFUSED, NULL, 0, out, SPACE, &which, &place) == 6 && which == 1 && place == 2,
+    expect(voltamar_notice(lower_zero, refused_length, NULL, 0, out, SPACE, &which, &place) == 6 && which == 1 && place == 2,
            "notice: the old sheet speaks first");
     expect(voltamar_notice(old_sheet, old_length, new_sheet, new_length, out, 59, &which, &place) == 12 && which == 0 && place == 60,
            "notice: 12 is of neither");
@@ -309,19 +405,18 @@ static void clear_words(uint32_t room[ROOM]) {
 
 /* a term of slot 0 for line 0; the hit sum of state 0, which asks for it, its capture sum, which matches always; state 0 is the last */
 static size_t one_state(uint8_t sheet[SPACE]) {
-    static const uint8_t sums[2][20] = {
-        {0, 'H', 'I', 'T', ' ', ' ', ' ', ' ', ' ', 8, 0, 0, 0, 0, 0, 0, 0, 4, 4, 4},
-        {2, 'C', 'A', 'P', 'T', 'U', 'R', 'E', ' ', 0, 0, 0, 0, 0, 0, 0, 0, 0, 0, 1},
-    };
-    static const uint8_t term[17] = {0, 'L', 'I', 'N', 'E', ' ', '0', ' ', ' ', 1, 0, 0, 0, 1, 0, 0, 0};
-    static const uint8_t state[22] = {0, 'T', 'W', 'I', 'C', 'E', ' ', ' ', ' ', 2, 0, 0, 0, 0, 0, 0, 0, 0, 0, 0, 0, 1};
+    static const uint8_t term[TERM - HEAD] = {1, 0, 0, 0, 1}, hit[SUM - HEAD] = {8, 0, 0, 0, 0, 0, 0, 0, 4, 4, 4},
+                         capture[SUM - HEAD] = {0, 0, 0, 0, 0, 0, 0, 0, 0, 0, 1},
+                         state[STATE - HEAD] = {2, 0, 0, 0, 0, 0, 0, 0, 0, 0, 0, 0, 1};
+    const uint8_t counts[SECTIONS] = {1, 0, 0, 2, 1};
     size_t n = 0;
-    sheet[n++] = 1;
-    memcpy(sheet + n, term, 17), n += 17;
-    sheet[n++] = 0, sheet[n++] = 0, sheet[n++] = 2;
-    memcpy(sheet + n, sums, 40), n += 40;
-    sheet[n++] = 1;
-    memcpy(sheet + n, state, 22), n += 22;
+    for (int section = 0; section < SECTIONS; section++) {
+        sheet[n++] = counts[section];
+        if (section == 0) n += put_record(sheet + n, 0, "LINE 0", term, TERM);
+        if (section == 3) n += put_record(sheet + n, 0, "HIT", hit, SUM);
+        if (section == 3) n += put_record(sheet + n, 2, "CAPTURE", capture, SUM);
+        if (section == 4) n += put_record(sheet + n, 0, "TWICE", state, STATE);
+    }
     return n;
 }
 
@@ -359,7 +454,7 @@ static void bench_refusals(void) {
     clear_words(room);
     /* one refusal after the other, as each fault is taken away */
     run[0] = 16;
-    expect(voltamar_bench(lower_zero, REFUSED, samples, VOLTAMAR_MOST_SAMPLES + 1, run, RUN, room, 2, &place) == 6 && place == 2,
+    expect(voltamar_bench(lower_zero, refused_length, samples, VOLTAMAR_MOST_SAMPLES + 1, run, RUN, room, 2, &place) == 6 && place == 2,
            "bench: the sheet is refused");
     expect(voltamar_bench(sheet, n, samples, VOLTAMAR_MOST_SAMPLES + 1, run, RUN, room, 2, &place) == VOLTAMAR_TOO_MANY_SAMPLES &&
                place == VOLTAMAR_MOST_SAMPLES,
@@ -430,11 +525,13 @@ int main(void) {
     old_length = load("old.sheet", old_sheet);
     new_length = load("new.sheet", new_sheet);
     lift_length = load("lift.sheet", lift);
+    make_refused();
     check_and_section();
     compile_and_read();
     states();
     edges();
     labels();
+    longest();
     notices();
     model();
     tellings();
