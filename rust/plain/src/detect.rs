@@ -4,6 +4,7 @@ use crate::{refused, Refusal};
 // ---- plain rules of a hit ----
 
 /// The sample's masked lines, the lowest line at bit 0.
+#[inline]
 pub fn gather(sample: u32, mask: u32) -> u32 {
     let (mut number, mut rank, mut left) = (0, 0, mask);
     while left != 0 {
@@ -16,7 +17,7 @@ pub fn gather(sample: u32, mask: u32) -> u32 {
 
 /// The way back: the number's bits on the masked lines, bit 0 on the lowest. Of two numbers the greater one gives the
 /// greater sample.
-pub(crate) fn scatter(number: u32, mask: u32) -> u32 {
+pub fn scatter(number: u32, mask: u32) -> u32 {
     let (mut sample, mut left, mut lines) = (0, number, mask);
     while lines != 0 {
         let lowest = lines & lines.wrapping_neg();
@@ -27,15 +28,18 @@ pub(crate) fn scatter(number: u32, mask: u32) -> u32 {
     sample
 }
 
+#[inline]
 pub fn term_hit(target: u32, mask: u32, sample: u32) -> bool {
     (sample ^ target) & mask == 0
 }
 
+#[inline]
 pub fn range_hit(lower: u32, upper: u32, mask: u32, sample: u32) -> bool {
     let number = gather(sample, mask);
     lower <= number && number <= upper
 }
 
+#[inline]
 pub fn edge_hit(rise: u32, fall: u32, neither: u32, earlier: u32, later: u32) -> bool {
     rise & !earlier & later != 0 || fall & earlier & !later != 0 || neither & !(earlier ^ later) != 0
 }
@@ -139,6 +143,7 @@ fn half(word: u32, which: usize) -> u32 {
     word >> (16 * which) & 0xFFFF
 }
 
+#[inline]
 pub fn run_term(words: &[u32], sample: u32) -> Result<bool, Refusal> {
     let words = counted::<4>(words)?;
     let mut all = 1; // no early exit: a look is cheaper than a branch that is guessed wrong
@@ -161,11 +166,13 @@ fn carry(words: &[u32], sample: u32) -> u32 {
     0
 }
 
+#[inline]
 pub fn run_range(words: &[u32], sample: u32) -> Result<bool, Refusal> {
     let words = counted::<32>(words)?;
     Ok(carry(&words[..16], sample) == 1 && carry(&words[16..], sample) == 0)
 }
 
+#[inline]
 pub fn run_edge(words: &[u32], earlier: u32, later: u32) -> Result<bool, Refusal> {
     let words = counted::<8>(words)?;
     // two tables to a word: lines are the four of a word, the first word's the highest
@@ -180,6 +187,7 @@ pub fn run_edge(words: &[u32], earlier: u32, later: u32) -> Result<bool, Refusal
 /// The two sources of each pair: ab, c, d, e, fg, h, i, j.
 const SOURCES: [(u32, u32); 8] = [(0, 1), (2, 10), (3, 12), (4, 14), (5, 6), (7, 11), (8, 13), (9, 15)];
 
+#[inline]
 pub fn run_sum(words: &[u32], sources: u16) -> Result<bool, Refusal> {
     let words = counted::<6>(words)?;
     let source = |n: u32| u32::from(sources) >> n & 1;

@@ -11,14 +11,14 @@ mod stream;
 mod sums;
 
 pub use bench::{bench, bench_words, Run, MOST_SAMPLES};
-pub use detect::{edge_hit, gather, range_hit, run_edge, run_range, run_sum, run_term, term_hit};
+pub use detect::{edge_hit, gather, range_hit, run_edge, run_range, run_sum, run_term, scatter, term_hit};
 pub use detect::{edge_words, range_words, state_word, sum_words, term_words};
 pub use detect::{read_edge, read_range, read_state, read_sum, read_term};
 pub use notice::{least_telling_range, least_telling_term, telling_edge};
 pub use notice::{notice, notice_agrees, NoticeRefusal, TellSums, LONGEST_NOTICE};
 pub use sheet::{check, section, DESCRIPTION, LABEL, LONGEST_SHEET, MOST, SECTIONS, SIZE};
 pub use stream::{compile, read, LONGEST_STREAM};
-pub use sums::{scan_telling_sum, telling_sum};
+pub use sums::{mid_answers, scan_telling_sum, telling_sum, Set};
 
 /// A refusal: its number, and its place (for 12 the bytes needed, of the bench the words; for 17 the words needed; for
 /// 20 the most samples).

@@ -13,6 +13,7 @@ pub fn scan_telling_sum(old: &[u8; 11], new: &[u8; 11]) -> Option<u16> {
 /// half, the least pattern for each of the four classes that its old and its new mid can answer, and to ask the two
 /// final operations for the sixteen pairs of classes. A half's 256 patterns are asked at once, a bit for each, and no
 /// branch depends on an answer.
+#[inline]
 pub fn telling_sum(old: &[u8; 11], new: &[u8; 11]) -> Option<u16> {
     let first = classes(mid_answers(old, 0), mid_answers(new, 0)).map(|pattern| sources(0, pattern));
     let second = classes(mid_answers(old, 1), mid_answers(new, 1)).map(|pattern| sources(1, pattern));
@@ -29,7 +30,7 @@ pub fn telling_sum(old: &[u8; 11], new: &[u8; 11]) -> Option<u16> {
 const NONE: u32 = 1 << 16;
 
 /// A set of the patterns of eight sources: pattern n is bit n % 64 of word n / 64.
-type Set = [u64; 4];
+pub type Set = [u64; 4];
 
 /// The sources of a half's pattern, which has its eight in rising order: in the first half 0 to 4, 10, 12, 14, in the
 /// second 5 to 9, 11, 13, 15. So a lesser pattern is lesser sources too, and the pairs have the same bits in both.
@@ -83,9 +84,9 @@ static MIDS: [Mid; 10] = [
     Mid { last: YES, ..NOP },
 ];
 
-/// The patterns to which the mid of a half says yes.
+/// The patterns to which the mid of a half says yes, the half's eight sources in rising order.
 #[inline(always)] // here and below: with the half known the compiler does better
-fn mid_answers(operations: &[u8; 11], half: usize) -> Set {
+pub fn mid_answers(operations: &[u8; 11], half: usize) -> Set {
     let pairs: [&Set; 4] = std::array::from_fn(|pair| {
         let code = operations[4 * half + pair];
         &PAIR_ANSWERS[pair][usize::from(code)]
