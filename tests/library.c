@@ -223,15 +223,18 @@ static uint8_t two_sums(const char *first, const char *second, size_t *place) {
 }
 
 static void labels(void) {
-    size_t place = 99, length = 99;
-    uint8_t which = 99;
+    size_t place = 99;
     char last[LABEL + 1];
     snprintf(last, sizeof last, "%-*s.", LABEL - 1, "AB");
     expect(two_sums("S0 LOCK", "S0 LOCK", &place) == VOLTAMAR_SAME_LABEL && place == SECOND_SUM, "labels: 19");
     expect(two_sums("", "", &place) == 19 && place == SECOND_SUM, "labels: blank twice");
     expect(two_sums("S0 LOCK", "", &place) == 0 && place == 0, "labels: blank once");
     expect(two_sums("AB", last, &place) == 0 && two_sums("AB", ".B", &place) == 0, "labels: all bytes count");
+}
 
+static void labels_of_the_lift(void) {
+    size_t place = 99, length = 99;
+    uint8_t which = 99;
     /* the last term of the lift gets the first one's label: then no call takes the sheet */
     uint8_t sheet[SPACE];
     memcpy(sheet, lift, SPACE);
@@ -531,6 +534,7 @@ int main(void) {
     states();
     edges();
     labels();
+    labels_of_the_lift();
     longest();
     notices();
     model();
