@@ -24,16 +24,16 @@ use Rattle.bench.proofs.Succeeding.{accepts, sheet-accepted, bench-did,
 
 -- ---- two pieces
 
--- one call on all samples wrote n words and handed on `final`: a call on the first piece, with the room out₁, and then
--- one on the second do the same. The two may share one room: of `out`, which n words fit, the second call may be lent
--- what the first left behind its k words, since n ≤ k + (length out - k) [D4.2]
-pub record InPieces (s xs ys : List ℕ) (r : Run) (out out₁ : List ℕ) (n : ℕ) (final : Run) : Type 0 where
+-- one call on all samples wrote n words and handed on `final`: a call on the first piece, with room for the k words that
+-- it takes, and then one on the second, with room for the rest, do the same. The two may share one room: of `out`, which
+-- n words fit, the second call may be lent what the first left behind its k words [D4.2]
+pub record InPieces (s xs ys : List ℕ) (r : Run) (out : List ℕ) (n : ℕ) (final : Run) : Type 0 where
   pub k : ℕ
   pub mid : Run
-  pub first : benched s xs r (length out₁) ≡ Done k mid
+  pub first : (out₁ : List ℕ) → k ≤ length out₁ → benched s xs r (length out₁) ≡ Done k mid
   pub within : k ≤ n
   pub second : (out₂ : List ℕ) → n ≤ k + length out₂ → benched s ys mid (length out₂) ≡ Done (n - k) final
-  pub written : (out₂ : List ℕ) → n ≤ k + length out₂
+  pub written : (out₁ out₂ : List ℕ) → k ≤ length out₁ → n ≤ k + length out₂
       → take n (benchedLeft s (xs ++ ys) r out) ≡ take k (benchedLeft s xs r out₁) ++ take (n - k) (benchedLeft s ys mid out₂)
 
 -- the samples that are taken of two pieces
@@ -43,8 +43,8 @@ both-taken s xs ys r = ap length (taken-pieces (machineOf s) r xs ys) ∙ length
 
 -- what one call does on all samples, two do on its pieces, wherever they are cut [D4.2]
 pub two-pieces : (s xs ys : List ℕ) (r : Run) (out : List ℕ) (n : ℕ) (final : Run) → benched s (xs ++ ys) r (length out) ≡ Done n final
-    → (out₁ : List ℕ) → n ≤ length out₁ → InPieces s xs ys r out out₁ n final
-two-pieces s xs ys r out n final e out₁ h =
+    → InPieces s xs ys r out n final
+two-pieces s xs ys r out n final e =
     let m = machineOf s in
     let d = bench-did s (xs ++ ys) r (length out) n final e in
     let a = sheet-accepted s (xs ++ ys) r (length out) n final e in
@@ -53,7 +53,8 @@ two-pieces s xs ys r out n final e out₁ h =
     let few : length (xs ++ ys) ≡ length xs + length ys = length-append xs ys in
     let most = d .few in
     let all : n ≡ length (taken m r xs) + length (taken m (handedOn m r xs) ys) = d .count ∙ both-taken s xs ys r in
-    let one = does s xs r (length out₁) a (omega arith) (d .start) (omega arith) in
+    let one : (out₁ : List ℕ) → length (taken m r xs) ≤ length out₁ → benched s xs r (length out₁) ≡ Done (length (taken m r xs)) (handedOn m r xs) =
+    λ out₁ h. does s xs r (length out₁) a (omega arith) (d .start) h in
     let two : (out₂ : List ℕ) → n ≤ length (taken m r xs) + length out₂
     → benched s ys (handedOn m r xs) (length out₂) ≡ Done (n - length (taken m r xs)) final =
     λ out₂ f.
@@ -67,9 +68,9 @@ two-pieces s xs ys r out n final e out₁ h =
       within = omega arith;
       second = two;
       written =
-          λ out₂ f.
+          λ out₁ out₂ h f.
           writes s (xs ++ ys) r out n final e ∙ taken-pieces m r xs ys
-          ∙ sym (ap₂ (λ (u v : List ℕ). u ++ v) (writes s xs r out₁ k mid one) (writes s ys mid out₂ (n - k) final (two out₂ f)));
+          ∙ sym (ap₂ (λ (u v : List ℕ). u ++ v) (writes s xs r out₁ k mid (one out₁ h)) (writes s ys mid out₂ (n - k) final (two out₂ f)));
     }
 
 -- and back: two calls, the second on the run that the first handed on, are one on all samples, where these are within

@@ -17,7 +17,7 @@ use Rattle.buffer.specs.declared.Verdict.the-variants as Verdict
 use Rattle.records.specs.Sections.{sections, fieldOf, descriptionOf}
 use Rattle.kinds.specs.Table.{TERMS, RANGES, EDGES, STATES}
 use Rattle.sheet.specs.Reading.{verdict}
-use Rattle.sheet.specs.Parsed.{longestSheet, parse, render}
+use Rattle.sheet.specs.Parsed.{parse, render}
 use Rattle.term.specs.Rule.{termHit}
 use Rattle.term.specs.Model.{runTerm}
 use Rattle.range.specs.Rule.{rangeHit}
@@ -35,7 +35,6 @@ use Rattle.reader.specs.Back.{sheetIn, readBack}
 use Rattle.reader.specs.Relabelled.{relabelled}
 use Rattle.reader.specs.Meaning.{WrittenBySheet}
 use Rattle.reader.proofs.Theorems as reader
-use Rattle.demands.proofs.Sizes.{room-for-every-sheet}
 use Rattle.buffer.proofs.Writing.{answered, filled}
 use lib.Seq.{take-append-seam}
 use lib.ListN.{drop}
@@ -94,12 +93,12 @@ reading-writes-the-sheet sheet room r room′ b ok fits d =
 pub accepted-iff-some-sheet-writes-it : (stream : List ℕ) → Bytes stream → (streamVerdict stream ≡ Accepted) ↔ WrittenBySheet stream
 accepted-iff-some-sheet-writes-it = reader.accepted-exactly
 
--- the same of the call's answer: given room for the longest sheet, it is a success exactly then [D2.6, A9]
-pub done-iff-some-sheet-writes-it : (stream room : List ℕ) (r : Outcome) (room′ : List ℕ) → Bytes stream → longestSheet ≤ length room
-    → Delivered (readBack stream) room r room′ → ((n : ℕ) × (r ≡ Done n)) ↔ WrittenBySheet stream
+-- the same of the call's answer: given room for the sheet, where there is one, it is a success exactly then [D2.6]
+pub done-iff-some-sheet-writes-it : (stream room : List ℕ) (r : Outcome) (room′ : List ℕ) → Bytes stream
+    → (WrittenBySheet stream → length (render (sheetIn stream)) ≤ length room) → Delivered (readBack stream) room r room′ → ((n : ℕ) × (r ≡ Done n)) ↔ WrittenBySheet stream
 done-iff-some-sheet-writes-it stream room r room′ b fits d = (
   λ e. reader.accepted-exactly stream b .0 (accepted (streamVerdict stream) (e .0) (sym (e .1) ∙ d .answer)),
-  λ w. (length sheet, room-for-every-sheet stream room r room′ b fits d (reader.accepted-exactly stream b .1 w)),
+  λ w. (length sheet, answered sheet room r room′ (fits w) (rw (reader.accepted-exactly stream b .1 w) at d)),
 )
   where
     sheet : List ℕ

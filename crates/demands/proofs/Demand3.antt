@@ -23,7 +23,7 @@ use Rattle.range_telling.specs.Matter.{DroppedWords}
 use Rattle.kinds.specs.Table.{TERMS, RANGES, EDGES, SUMS, STATES, sections, showsOf}
 use Rattle.lut.specs.declared.Telling.{Telling}
 use Rattle.lut.specs.declared.Telling.the-variants.{Alike, Apart}
-use Rattle.records.specs.Sections.{descriptionOf}
+use Rattle.records.specs.Sections.{descriptionOf, labelOf}
 use Rattle.sheet.specs.Reading.{verdict}
 use Rattle.sheet.specs.Parsed.{parse, recordWith, AcceptedDescription}
 use Rattle.sheet.proofs.Descriptions.{description-known}
@@ -34,19 +34,19 @@ use Rattle.compiler.specs.Sent.{SentAt}
 use Rattle.compiler.specs.Sent as sent
 use Rattle.notice.specs.declared.Line.{Line}
 use Rattle.notice.specs.declared.Finding.{Finding}
-use Rattle.notice.specs.declared.Finding.the-variants.{New, Gone, Changed}
+use Rattle.notice.specs.declared.Finding.the-variants.{New, Gone, Name, Changed}
 use Rattle.notice.specs.declared.Noticed.{Noticed}
 use Rattle.notice.specs.declared.Noticed.the-variants.{Done}
 use Rattle.notice.specs.Findings.{line}
 use Rattle.notice.specs.Text.{render}
-use Rattle.notice.specs.Notice.{noticeLines, noticeText, longestNotice, NoticeGiven}
+use Rattle.notice.specs.Notice.{noticeLines, noticeText, NoticeGiven}
 use Rattle.notice.specs.Shared.{Has, Shared, descriptionAt}
 use Rattle.demands.specs.Apart.{SomeInputTells}
 use Rattle.demands.specs.Written.{linesIn, written, Stands, AlterationIn}
 use Rattle.demands.proofs.EqualWords as words
 use Rattle.demands.proofs.NoticeBytes.{Shows}
 use Rattle.demands.proofs.Written.{lines-rendered, text-iff}
-use Rattle.demands.proofs.Sizes.{room-for-every-notice}
+use Rattle.demands.proofs.Sizes.{room-for-this-notice}
 use Rattle.demands.proofs.EdgeLines.{edges-told, descriptions-changed}
 use Rattle.demands.proofs.SumLines.{answerOn, shows-answer, same-answers, a-pattern, every-pattern}
 use Rattle.demands.proofs.AlterationLines as lines
@@ -101,14 +101,15 @@ pub equal-state-words-iff-same-fields : (d e : List ℕ) → AcceptedDescription
     → (chainWordsOf STATES d ≡ chainWordsOf STATES e) ↔ (state.fromBytes d ≡ state.fromBytes e)
 equal-state-words-iff-same-fields = words.states-same
 
--- of any two accepted sheets, and the bytes that the call wrote, given room for the longest notice
+-- of any two accepted sheets, and the bytes that the call wrote, given room for their notice; which room is enough for
+-- every notice: Sizes
 module _ (old new : List ℕ) (bo : Bytes old) (bn : Bytes new) (ao : verdict old ≡ Accepted) (an : verdict new ≡ Accepted)
-    (out : List ℕ) (r : Noticed) (out′ : List ℕ) (enough : longestNotice ≤ length out) (given : NoticeGiven old new out r out′) where
-  -- the notice is written whole, and its length is answered [N1, A9]
+    (out : List ℕ) (r : Noticed) (out′ : List ℕ) (enough : length (noticeText old new) ≤ length out) (given : NoticeGiven old new out r out′) where
+  -- the notice is written whole, and its length is answered [N1, A1]
   pub notice-is-written : (r ≡ Done (length (noticeText old new))) × (written r out′ ≡ noticeText old new)
   notice-is-written =
       let text = noticeText old new in
-      let done : r ≡ Done (length text) = room-for-every-notice old new out r out′ enough given ao an in
+      let done : r ≡ Done (length text) = room-for-this-notice old new out r out′ enough given ao an in
       let left = rw done at (given .left) in
       (done, rw (done, left) (take-append-seam text (drop (length text) out)))
 
@@ -205,6 +206,24 @@ module _ (old new : List ℕ) (bo : Bytes old) (bn : Bytes new) (ao : verdict ol
   -- and no other line tells of its fields [D3.10]
   pub state-has-no-other-line : (slot : ℕ) (c : Telling) → Shows (Changed c) → Stands (written r out′) STATES slot (Changed c) → c ≡ Apart Nothing
   state-has-no-other-line slot c s i = lines.state-line-alone old new bo bn ao an slot c (stands-iff STATES slot (Changed c) (lit< tt) s .0 i)
+
+  -- a slot has its NAME line where both sheets have it under labels that differ, and only there [N5]
+  pub name-line : (k slot : ℕ) → k < sections → Stands (written r out′) k slot Name
+      ↔ (Has k slot old × Has k slot new × (labelOf (recordWith k slot old) ≡ labelOf (recordWith k slot new) → ⊥))
+  name-line k slot hk =
+      let there = stands-iff k slot Name hk tt in
+      let says = lines.name-line old new bo bn ao an k slot hk in
+      (λ i. says .0 (there .0 i), λ g. there .1 (says .1 g))
+
+  -- a slot has its WORD line where both sheets have it, the descriptions differ and no input tells them apart, and only
+  -- there [N6, N10]
+  pub word-line : (k slot : ℕ) → k < sections → Stands (written r out′) k slot (Changed Alike)
+      ↔ (Has k slot old × Has k slot new × (descriptionAt k slot old ≡ descriptionAt k slot new → ⊥)
+      × HitAlike (showsOf k (descriptionAt k slot old)) (showsOf k (descriptionAt k slot new)))
+  word-line k slot hk =
+      let there = stands-iff k slot (Changed Alike) hk tt in
+      let says = lines.word-iff-alike-on-every-input old new bo bn ao an k slot hk in
+      (λ i. says .0 (there .0 i), λ g. there .1 (says .1 g))
 
   -- a slot that one sheet alone has gets NEW or GONE, and no other slot does [D3.8]
   pub new-line : (k slot : ℕ) → k < sections → Stands (written r out′) k slot New ↔ ((recordWith k slot old ≡ []) × Has k slot new)

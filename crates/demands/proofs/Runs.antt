@@ -65,10 +65,11 @@ missing-sums-never-match = programme.missing-sum
 
 -- ---- pieces
 
--- given room for what one call on all samples writes, a call on the first piece and then one on the second, with the run
--- that the first handed on, write the same, one after the other, and hand on the same run [D4.2]
+-- where one call on all samples, which are within its limit, has room, a call on the first piece and then one on the
+-- second, with the run that the first handed on, write the same, one after the other, and hand on the same run; each
+-- needs room for what it takes itself [D4.2]
 pub two-pieces-are-one-run : (sheet xs ys : List ℕ) (run : Run) (out : List ℕ) (n : ℕ) (final : Run)
-    → benched sheet (xs ++ ys) run (length out) ≡ Done n final → (out₁ : List ℕ) → n ≤ length out₁ → bench.InPieces sheet xs ys run out out₁ n final
+    → benched sheet (xs ++ ys) run (length out) ≡ Done n final → bench.InPieces sheet xs ys run out n final
 two-pieces-are-one-run = bench.two-pieces
 
 -- and back: two such calls are one on all samples, within its limit and given room [D4.2]

@@ -121,8 +121,12 @@ room-for-every-sheet stream room r room′ b fits d ok =
     let back = render (sheetIn stream) in
     answered back room r room′ (omega (arith, fits, sheet.at-most back (reader.read-accepted stream b ok))) (rw ok at d)
 
+-- room for the notice of two accepted sheets is enough for it [A3]
+pub room-for-this-notice : (old new out : List ℕ) (r : Noticed) (out′ : List ℕ) → length (noticeText old new) ≤ length out
+    → NoticeGiven old new out r out′ → verdict old ≡ Accepted → verdict new ≡ Accepted → r ≡ Noticed.Done (length (noticeText old new))
+room-for-this-notice old new out r out′ fits g a e = g .answer ∙ simp (a, e, le-leb (length (noticeText old new)) (length out) fits)
+
 -- for every notice [A9, N11]
 pub room-for-every-notice : (old new out : List ℕ) (r : Noticed) (out′ : List ℕ) → longestNotice ≤ length out → NoticeGiven old new out r out′
     → verdict old ≡ Accepted → verdict new ≡ Accepted → r ≡ Noticed.Done (length (noticeText old new))
-room-for-every-notice old new out r out′ fits g a e =
-    g .answer ∙ simp (a, e, le-leb (length (noticeText old new)) (length out) (omega (arith, fits, notice.at-most old new)))
+room-for-every-notice old new out r out′ fits = room-for-this-notice old new out r out′ (omega (arith, fits, notice.at-most old new))
