@@ -18,8 +18,9 @@ use Rattle.bench.specs.declared.Run.{Run}
 use Rattle.bench.specs.declared.Benched.{Benched}
 use Rattle.bench.specs.declared.Benched.the-variants.{Done, Refused}
 use Rattle.bench.specs.Run.{startAccepted}
-use Rattle.bench.specs.Call.{machineOf, benched, benchedLeft}
+use Rattle.bench.specs.Call.{machineOf, benched, benchedLeft, BenchNumbered}
 use Rattle.bench.specs.Handed.{isRun, noRun, runOf, earlierWords, wordsOf, handedBy, outcomeOf}
+use Rattle.bench.proofs.Numbered.{outcome-numbered}
 use Rattle.bench.proofs.Succeeding.{bench-did}
 
 -- whether the flags are 0 or 1, and no earlier word stands where there is none
@@ -82,14 +83,14 @@ module _ (s xs ws : List ℕ) (r : Run) (out out′ : List ℕ) (b : Benched) (e
 
   pub words-done : (n : ℕ) (r′ : Run) (ws′ : List ℕ) → b ≡ Done n r′ → ws′ ≡ wordsOf r′
       → (Outcome.Done n ≡ outcomeOf (benched s xs (runOf ws) (length out))) × ((ws′ ≡ handedBy (benched s xs (runOf ws) (length out)) ws)
-      × (out′ ≡ benchedLeft s xs (runOf ws) out))
+      × ((out′ ≡ benchedLeft s xs (runOf ws) out) × BenchNumbered s xs (runOf ws) (length out) 0 n))
   words-done n r′ ws′ e w =
       let q : Done n r′ ≡ benched s xs (runOf ws) (length out) = sym e ∙ same-answer in
-      (ap outcomeOf q, (w ∙ ap (λ (c : Benched). handedBy c ws) q, same-left))
+      (ap outcomeOf q, (w ∙ ap (λ (c : Benched). handedBy c ws) q, (same-left, outcome-numbered s xs (runOf ws) (length out) (Outcome.Done n) (ap outcomeOf q))))
 
   pub words-refused : (number place : ℕ) → b ≡ Refused number place
       → (Outcome.Refused number place ≡ outcomeOf (benched s xs (runOf ws) (length out))) × ((ws ≡ handedBy (benched s xs (runOf ws) (length out)) ws)
-      × (out′ ≡ benchedLeft s xs (runOf ws) out))
+      × ((out′ ≡ benchedLeft s xs (runOf ws) out) × BenchNumbered s xs (runOf ws) (length out) number place))
   words-refused number place e =
       let q : Refused number place ≡ benched s xs (runOf ws) (length out) = sym e ∙ same-answer in
-      (ap outcomeOf q, (ap (λ (c : Benched). handedBy c ws) q, same-left))
+      (ap outcomeOf q, (ap (λ (c : Benched). handedBy c ws) q, (same-left, outcome-numbered s xs (runOf ws) (length out) (Outcome.Refused number place) (ap outcomeOf q))))

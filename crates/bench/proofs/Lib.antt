@@ -8,5 +8,6 @@ pub mod Calling
 pub mod Agreeing
 pub mod Succeeding
 pub mod Through
+pub mod Numbered
 pub mod Handing
 pub mod Theorems

@@ -1,10 +1,12 @@
 -- What the call answers, and what it leaves in the lent words.
 use Prim.Native.Nat.{ℕ}
-use mathlib.Core.Bool.{cond, not}
+use mathlib.Core.Bool.{Bool, cond, not}
 use mathlib.Core.List.{List}
+use mathlib.Core.Path.{_≡_}
 use lib.Dec.{ltb}
 use lib.ListN.{length}
 use Rattle.buffer.specs.Room.{fill}
+use Rattle.buffer.specs.Verdict.{isAccepted, verdictNumber, verdictPlace}
 use Rattle.buffer.specs.declared.Verdict.{Verdict}
 use Rattle.buffer.specs.declared.Verdict.the-variants as Verdict
 use Rattle.sheet.specs.Reading.{verdict}
@@ -54,3 +56,29 @@ leftBy (Refused number place) words out = out
 -- THE LENT WORDS that the call leaves [R10]
 unfoldable pub benchedLeft : (sheet samples : List ℕ) → Run → (out : List ℕ) → List ℕ
 benchedLeft s xs r out = leftBy (benched s xs r (length out)) (taken (machineOf s) r xs) out
+
+-- the refusal number for each answer; 0 is none [A5]
+abbrev pub benchedNumber : Benched → ℕ
+benchedNumber (Done n r) = 0
+benchedNumber (Refused number place) = number
+
+-- the number beside it: a refusal's place, behind a success how many words were written [A5, A6]
+abbrev pub benchedPlace : Benched → ℕ
+benchedPlace (Done n r) = n
+benchedPlace (Refused number place) = place
+
+-- of four numbers the sheet's if it is refused, else the samples' if they are too many, else the run's if it may not be
+-- handed in, else the room's [O8]
+abbrev pub firstJudged : Verdict → (many starts : Bool) (ofSheet ofSamples ofRun ofRoom : ℕ) → ℕ
+firstJudged sheet many starts ofSheet ofSamples ofRun ofRoom =
+    cond (isAccepted sheet) (cond many ofSamples (cond starts ofRoom ofRun)) ofSheet
+
+-- the answer in numbers: the sheet's refusal, else 20 and the most, else 24 and 0, else 12 and the words needed, else 0
+-- and how many were written [A5, A6, O8, F12, F20, F24]
+pub record BenchNumbered (s xs : List ℕ) (r : Run) (room number place : ℕ) : Type 0 where
+  pub number-due : number
+      ≡ firstJudged (verdict s) (ltb mostSamples (length xs)) (startAccepted (machineOf s) r) (verdictNumber (verdict s)) 20 24
+      (cond (ltb room (length (taken (machineOf s) r xs))) 12 0)
+  pub place-due : place
+      ≡ firstJudged (verdict s) (ltb mostSamples (length xs)) (startAccepted (machineOf s) r) (verdictPlace (verdict s)) mostSamples 0
+      (length (taken (machineOf s) r xs))

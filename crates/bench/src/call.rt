@@ -4,7 +4,7 @@ ghost use lib.ListN.{length};
 ghost use Rattle.programme.specs.Table.{tableLength, plain};
 ghost use Rattle.bench.specs.declared.Benched.the-variants.{Done};
 ghost use Rattle.bench.specs.Run.{fresh, startAccepted, earlierOf};
-ghost use Rattle.bench.specs.Call.{benched, benchedLeft};
+ghost use Rattle.bench.specs.Call.{benched, benchedLeft, benchedNumber, benchedPlace, BenchNumbered};
 ghost use Rattle.bench.specs.Walk.{Starts, Delivers, Answers, runFrom, ranTo};
 use crate::BAD_RUN;
 use crate::Benched;
@@ -131,6 +131,7 @@ pub(crate) fn bench_table(table: &[u32], samples: &[u32], run: Run, out: &mut [u
 pub fn bench(sheet: &[u8], samples: &[u32], run: Run, out: &mut [u32]) -> Benched
     ensures { λ r. ⌜ r ≡ benched (now (sheet .entry)) (now (samples .entry)) run (length (now (out .entry))) ⌝ }
     ensures { λ _. ⌜ now (out .exit) ≡ benchedLeft (now (sheet .entry)) (now (samples .entry)) run (now (out .entry)) ⌝ }
+    ensures { λ r. ⌜ BenchNumbered (now (sheet .entry)) (now (samples .entry)) run (length (now (out .entry))) (benchedNumber r) (benchedPlace r) ⌝ }
 {
     let mut table = [0u32; programme::TABLE_LENGTH];
     match programme::prepare(sheet, &mut table) {

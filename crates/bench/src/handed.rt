@@ -5,8 +5,9 @@ ghost use mathlib.Core.List.{[]};
 ghost use lib.Dec.{eqb, ltb};
 ghost use lib.ListN.{length, getD};
 ghost use Rattle.lut.specs.Table.{oneIf};
+ghost use Rattle.buffer.specs.Verdict.{outcomeNumber, outcomePlace};
 ghost use Rattle.bench.specs.declared.Earlier.the-variants.{Nothing, Word};
-ghost use Rattle.bench.specs.Call.{benched, benchedLeft};
+ghost use Rattle.bench.specs.Call.{benched, benchedLeft, BenchNumbered};
 ghost use Rattle.bench.specs.Handed.{noRun, runOf, earlierWords, wordsOf, handedBy, outcomeOf};
 use crate::Benched;
 use crate::Earlier;
@@ -112,6 +113,7 @@ pub fn bench_words(sheet: &[u8], samples: &[u32], run: &mut [u32], out: &mut [u3
     ensures { λ r. ⌜ r ≡ outcomeOf (benched (now (sheet .entry)) (now (samples .entry)) (runOf (now (run .entry))) (length (now (out .entry)))) ⌝ }
     ensures { λ _. ⌜ now (run .exit) ≡ handedBy (benched (now (sheet .entry)) (now (samples .entry)) (runOf (now (run .entry))) (length (now (out .entry)))) (now (run .entry)) ⌝ }
     ensures { λ _. ⌜ now (out .exit) ≡ benchedLeft (now (sheet .entry)) (now (samples .entry)) (runOf (now (run .entry))) (now (out .entry)) ⌝ }
+    ensures { λ r. ⌜ BenchNumbered (now (sheet .entry)) (now (samples .entry)) (runOf (now (run .entry))) (length (now (out .entry))) (outcomeNumber r) (outcomePlace r) ⌝ }
 {
     let handed = run_of(run);
     match bench(sheet, samples, handed, out) {

@@ -1,7 +1,7 @@
 -- Laws of the checks and of the words that are read, as loops over a stream ask for them. Assumes nothing.
 use Prim.Native.Nat.{ℕ, zero, suc, zero-le, _+_, _-_, _*_, _≤_, _<_}
-use mathlib.Core.Path.{_≡_, refl, ap}
-use mathlib.Core.Bool.{not}
+use mathlib.Core.Path.{_≡_, refl, sym, ap, _∙_}
+use mathlib.Core.Bool.{Bool, true, false, not}
 use mathlib.Core.List.{List, [], _∷_, _++_}
 use native.Mathlib.Omega.{arith}
 use native.Mathlib.Nat.{zero-add, not-suc-le-zero}
@@ -10,7 +10,8 @@ use lib.Dec.{ltb, eqb, lit<}
 use lib.ListN.{length, drop, length-drop}
 use lib.Seq.{drop-drop}
 use Rattle.peek.specs.Bytes.{Bytes}
-use Rattle.buffer.specs.Verdict.{andThen, refuseIf}
+use Rattle.buffer.specs.Verdict.{andThen, refuseIf, verdictNumber, verdictPlace, VerdictNumbered}
+use Rattle.buffer.specs.declared.Verdict.{Verdict}
 use Rattle.buffer.specs.declared.Verdict.the-variants.{Accepted, Refused}
 use Rattle.buffer.proofs.Faults.{andThen-accepted, refuseIf-accepted}
 use Rattle.peek.proofs.Numbers.{bytes-drop, u32-small}
@@ -40,6 +41,24 @@ module _ (op at : ℕ) (s : List ℕ) where
       let w = refuseIf-accepted (ltb (length s) 5) 13 at (p .0) in
       let d = refuseIf-accepted (not (eqb (opcode s) op)) 14 at (p .1) in
       (ltb-false (length s) 5 w, eqb-true (opcode s) op (not-false (eqb (opcode s) op) d))
+
+  -- an answer that is its verdict has its numbers: 13 and 14 are not 0
+  pub command-meets : (r : Verdict) → r ≡ commandVerdict op at s → (r ≡ commandVerdict op at s) × VerdictNumbered (commandVerdict op at s) r
+  unfolding commandVerdict
+  command-meets r e =
+      let number = ap verdictNumber e in (
+        e,
+        record {
+          number = number;
+          place = ap verdictPlace e;
+          none = (λ z. accepted (ltb (length s) 5) (not (eqb (opcode s) op)) (sym number ∙ z), λ a. number ∙ ap verdictNumber a);
+        },
+      )
+    where
+      accepted : (short other : Bool) → let v = andThen (refuseIf short 13 at) (refuseIf other 14 at) in verdictNumber v ≡ 0 → v ≡ Accepted
+      accepted true other z = absurd (omega arith)
+      accepted false true z = absurd (omega arith)
+      accepted false false z = refl
 
 -- ---- a run of load commands
 

@@ -1,6 +1,7 @@
 // Commands read from a stream at an offset. Offsets past the end are taken: nothing stands there.
 ghost use mathlib.Core.Path.{_≡_};
 ghost use lib.ListN.{drop};
+ghost use Rattle.buffer.specs.Verdict.{VerdictNumbered};
 ghost use Rattle.command.specs.Reading.{number, commandVerdict};
 use crate::COMMAND_SIZE;
 use buffer::Verdict;
@@ -13,6 +14,7 @@ const NOT_DUE: u8 = 14;
 // Whether a command with this opcode stands at `at`.
 pub fn check_command(stream: &[u8], at: usize, op: u8) -> Verdict
     ensures { λ r. ⌜ r ≡ commandVerdict op at (drop at (now (stream .entry))) ⌝ }
+    ensures { λ r. ⌜ VerdictNumbered (commandVerdict op at (drop at (now (stream .entry)))) r ⌝ }
 {
     let rest = peek::suffix(stream, at);
     if rest.len() < COMMAND_SIZE {

@@ -21,7 +21,7 @@ returns : tie.Need-returns
 returns c =
     let handed = c .hand-outcome .ensures in
     let given = c .before .before .before .before .before .before .bench-words .ensures in
-    (handed .0 ∙ ap outcomeNumber (given .0), (handed .1 ∙ ap outcomePlace (given .0), (given .1 .0, given .1 .1)))
+    (handed .0 ∙ ap outcomeNumber (given .0), (handed .1 ∙ ap outcomePlace (given .0), (given .1 .0, given .1 .1 .0)))
 
 pub voltamar-bench-spec : {M : Type 1} → statement M
 voltamar-bench-spec =

@@ -8,6 +8,7 @@ use Rattle.programme.specs.Machine.{Agree}
 use Rattle.programme.specs.Table.{plain}
 use Rattle.programme.proofs.Theorems.{agrees}
 use Rattle.bench.specs.Call.{machineOf}
+use Rattle.bench.proofs.Numbered.{numbered}
 use Rattle.bench.proofs.Through.{table-refused, table-made, refused-call, table-call}
 use Rattle.bench.proofs.call.bench.Statement.{statement}
 use Rattle.bench.proofs.call.bench.Tie as tie
@@ -34,8 +35,10 @@ returns : tie.Need-returns
 returns c =
     let p = c .before .before .before .before in
     let a = p .before .before .before .before .before .args in
+    let g =
     refused-call (a .sheet .now) (a .samples .now) (a .run) (a .out .now) _ _
-    (table-refused (a .sheet .now) _ _ _ (p .prepare .ensures) refl _ _ (c .before .number .given .1))
+    (table-refused (a .sheet .now) _ _ _ (p .prepare .ensures) refl _ _ (c .before .number .given .1)) in
+    (g .0, (g .1, numbered (a .sheet .now) (a .samples .now) (a .run) _ _ (g .0)))
 
 same-length : tie.Need-same-length
 same-length c = search needs
@@ -48,7 +51,8 @@ returns-2 c =
     let m = table-made (a .sheet .now) _ _ _ (p .prepare .ensures) refl _ (b .before .before .before .enum-told .given .1) in
     let bytes : Bytes (a .sheet .now) = λ i. omega (arith, p .before .before .before .before .shared-slice-known .given i) in
     let agree = subst (λ (t : List _). Agree (plain t) (machineOf (a .sheet .now))) (sym (m .1)) (agrees (a .sheet .now) bytes (m .0)) in
-    table-call (a .sheet .now) _ (a .samples .now) (a .run) (a .out .now) _ _ (m .0) agree (b .bench-table .ensures)
+    let g = table-call (a .sheet .now) _ (a .samples .now) (a .run) (a .out .now) _ _ (m .0) agree (b .bench-table .ensures) in
+    (g .0, (g .1, numbered (a .sheet .now) (a .samples .now) (a .run) _ _ (g .0)))
 
 pub bench-spec : {M : Type 1} → statement M
 bench-spec =

@@ -21,7 +21,7 @@ put-run-requires c κs =
     let b = c .before .before .before .before .before .before in
     let a = b .before .before .before .before .before .before .before .before .args in
     done-count (a .sheet .now) (a .samples .now) (a .run .now) _ (a .out .now) _ _ (b .before .before .run-of .ensures) (b .bench .ensures .0)
-    (b .bench .ensures .1) _ _ (c .before .before .n .given .1)
+    (b .bench .ensures .1 .0) _ _ (c .before .before .n .given .1)
 
 same-length : tie.Need-same-length
 same-length c = search needs
@@ -34,7 +34,7 @@ returns c =
     let b = c .before .before .before .before .before in
     let a = b .before .before .before .before .before .before .before .before .args in
     words-refused (a .sheet .now) (a .samples .now) (a .run .now) _ (a .out .now) _ _ (b .before .before .run-of .ensures) (b .bench .ensures .0)
-    (b .bench .ensures .1) _ _ (c .before .number .given .1)
+    (b .bench .ensures .1 .0) _ _ (c .before .number .given .1)
 
 same-length-3 : tie.Need-same-length-3
 same-length-3 c = search needs
@@ -48,7 +48,7 @@ returns-2 c =
     let b = n .before .before .before .before in
     let a = b .before .before .before .before .before .before .before .before .args in
     words-done (a .sheet .now) (a .samples .now) (a .run .now) _ (a .out .now) _ _ (b .before .before .run-of .ensures) (b .bench .ensures .0)
-    (b .bench .ensures .1) _ _ _ (n .n .given .1) (c .before .before .put-run .ensures)
+    (b .bench .ensures .1 .0) _ _ _ (n .n .given .1) (c .before .before .put-run .ensures)
 
 pub bench-words-spec : {M : Type 1} → statement M
 bench-words-spec =

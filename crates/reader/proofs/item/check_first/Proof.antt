@@ -15,14 +15,14 @@ returns : tie.Need-returns
 returns c =
     let a = c .before .before .before .before .before .args in
     let s : List ℕ = drop (a .at) (now (a .stream)) in
-    sym (first-refused (a .low) (a .at) s _ _ (sym (c .before .before .before .check-command .ensures) ∙ c .before .checked .given .1))
+    sym (first-refused (a .low) (a .at) s _ _ (sym (c .before .before .before .check-command .ensures .0) ∙ c .before .checked .given .1))
 
 returns-2 : tie.Need-returns-2
 returns-2 c =
     let at-args = c .before .before .before .before .before in
     let a = at-args .args in
     let s : List ℕ = drop (a .at) (now (a .stream)) in
-    let e = sym (c .before .before .before .check-command .ensures) ∙ c .before .enum-told .given .1 in
+    let e = sym (c .before .before .before .check-command .ensures .0) ∙ c .before .enum-told .given .1 in
     let is : a .section ≡ sectionAt (number s) = at-args .pre .1 ∙ ap sectionAt (at-args .pre .0) in
     sym (first-unknown (a .low) (a .at) s e (rw (← is) (c .if1 .taken)))
 
@@ -31,7 +31,7 @@ returns-3 c =
     let at-args = c .before .before .before .before .before .before in
     let a = at-args .args in
     let s : List ℕ = drop (a .at) (now (a .stream)) in
-    let e = sym (c .before .before .before .before .check-command .ensures) ∙ c .before .before .enum-told .given .1 in
+    let e = sym (c .before .before .before .before .check-command .ensures .0) ∙ c .before .before .enum-told .given .1 in
     let is : a .section ≡ sectionAt (number s) = at-args .pre .1 ∙ ap sectionAt (at-args .pre .0) in
     sym (first-below (a .low) (a .at) s e (rw (← is) (c .before .if1 .left)) (rw (← at-args .pre .0) (c .if2 .taken)))
 
@@ -40,7 +40,7 @@ returns-4 c =
     let at-args = c .before .before .before .before .before .before in
     let a = at-args .args in
     let s : List ℕ = drop (a .at) (now (a .stream)) in
-    let e = sym (c .before .before .before .before .check-command .ensures) ∙ c .before .before .enum-told .given .1 in
+    let e = sym (c .before .before .before .before .check-command .ensures .0) ∙ c .before .before .enum-told .given .1 in
     let is : a .section ≡ sectionAt (number s) = at-args .pre .1 ∙ ap sectionAt (at-args .pre .0) in
     sym (first-known (a .low) (a .at) s e (rw (← is) (c .before .if1 .left)) (rw (← at-args .pre .0) (c .if2 .left)))
 

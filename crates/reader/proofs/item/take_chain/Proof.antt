@@ -17,27 +17,27 @@ returns c =
     let a = c .before .before .before .before .before .before .args in
     let s : List ℕ = drop (a .at) (now (a .stream)) in
     let n : ℕ = length (now (a .into)) in
-    taken-refused _ _ _ _ _ (sym (chain-refused n [] (a .due) (a .at) s _ _ (sym (c .before .before .before .check-command .ensures) ∙ c .before .checked .given .1)))
+    taken-refused _ _ _ _ _ (sym (chain-refused n [] (a .due) (a .at) s _ _ (sym (c .before .before .before .check-command .ensures .0) ∙ c .before .checked .given .1)))
 
 returns-2 : tie.Need-returns-2
 returns-2 c =
     let a = c .before .before .before .before .before .before .before .args in
     let s : List ℕ = drop (a .at) (now (a .stream)) in
     let n : ℕ = length (now (a .into)) in
-    let e = sym (c .before .before .before .before .check-command .ensures) ∙ c .before .before .enum-told .given .1 in
+    let e = sym (c .before .before .before .before .check-command .ensures .0) ∙ c .before .before .enum-told .given .1 in
     taken-refused _ _ _ _ _ (sym (chain-other n [] (a .due) (a .at) s e (λ d. c .if1 .taken (c .before .number-at .ensures ∙ d))))
 
 add-take-words : tie.Need-add-take-words
 add-take-words c =
     let a = c .before .before .before .before .before .before .before .args in
-    let e = sym (c .before .before .before .before .check-command .ensures) ∙ c .before .before .enum-told .given .1 in
+    let e = sym (c .before .before .before .before .check-command .ensures .0) ∙ c .before .before .enum-told .given .1 in
     omega (arith, command-within selectOp (a .at) (now (a .stream)) e)
 
 returns-3 : tie.Need-returns-3
 returns-3 c =
     let a = c .before .before .before .before .before .before .before .before .before .before .before .args in
     let n : ℕ = length (now (a .into)) in
-    let e = sym (c .before .before .before .before .before .before .before .before .check-command .ensures) ∙ c .before .before .before .before .before .before .enum-told .given .1 in
+    let e = sym (c .before .before .before .before .before .before .before .before .check-command .ensures .0) ∙ c .before .before .before .before .before .before .enum-told .given .1 in
     taken-as _ _ _ _ _ (chain-due n (a .due) (a .at) (now (a .stream)) e (sym (c .before .before .before .before .before .number-at .ensures) ∙ c .before .before .before .before .if1 .left))
     (c .before .before .take-words .ensures)
 

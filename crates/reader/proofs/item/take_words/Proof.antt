@@ -46,12 +46,12 @@ returns c =
     let l = c .before .before .before .before .before .loop in
     let turn = loads-turn (n - l .i) (l .from) s (omega arith) in
     taken-refused _ _ _ _ _
-    (andThen-stop _ _ _ _ _ (sym turn ∙ l .inv .1) (sym (c .before .before .before .check-command .ensures) ∙ c .before .checked .given .1))
+    (andThen-stop _ _ _ _ _ (sym turn ∙ l .inv .1) (sym (c .before .before .before .check-command .ensures .0) ∙ c .before .checked .given .1))
 
 -- the command has no fault
 fine : (c : tie.After-enum-told Inv-loop μ-loop)
     → let from = c .before .before .before .before .loop .from in commandVerdict loadOp from (drop from (now (c .before .before .before .before .before .before .before .args .stream))) ≡ Accepted
-fine c = sym (c .before .before .check-command .ensures) ∙ c .enum-told .given .1
+fine c = sym (c .before .before .check-command .ensures .0) ∙ c .enum-told .given .1
 
 add-from : tie.Need-add-from Inv-loop μ-loop
 add-from c = omega (arith, command-within loadOp (c .before .before .before .before .before .loop .from) (now (c .before .before .before .before .before .before .before .before .args .stream)) (fine (c .before)))
