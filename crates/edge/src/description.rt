@@ -1,6 +1,9 @@
 // An edge's description in a sheet, as bytes.
 ghost use mathlib.Core.Path.{_≡_};
 ghost use Rattle.buffer.specs.Room.{bytes, Delivered};
+ghost use Rattle.lut.specs.Telling.{Says};
+ghost use Rattle.edge.specs.Rule.{hit, Accepted};
+ghost use Rattle.edge.specs.Description.{fromBytes};
 ghost use Rattle.edge.specs.Description as description;
 use crate::Edge;
 use crate::ReadEdge;
@@ -65,9 +68,10 @@ pub fn put_back(out: &mut [u8], words: &[u32]) -> Outcome
     }
 }
 
-// What tells two descriptions apart.
+// Two samples that tell two accepted descriptions apart, or that none do.
 pub fn telling_of(old: &[u8], new: &[u8]) -> Telling
     ensures { λ r. ⌜ r ≡ description.telling (now (old .entry)) (now (new .entry)) ⌝ }
+    ensures meaning { λ r. ⌜ (Accepted (fromBytes (now (old .entry))) → Accepted (fromBytes (now (new .entry))) → Says (hit (fromBytes (now (old .entry)))) (hit (fromBytes (now (new .entry)))) r) ⌝ }
 {
     super::telling::edge_telling(from_bytes(old), from_bytes(new))
 }

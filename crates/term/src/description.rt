@@ -1,6 +1,9 @@
 // A pattern's description in a sheet, as bytes.
 ghost use mathlib.Core.Path.{_≡_};
 ghost use Rattle.buffer.specs.Room.{bytes, Delivered};
+ghost use Rattle.lut.specs.Telling.{Says, Least};
+ghost use Rattle.term.specs.Rule.{hit};
+ghost use Rattle.term.specs.Description.{fromBytes};
 ghost use Rattle.term.specs.Description as description;
 use crate::Pattern;
 use crate::ReadTerm;
@@ -41,9 +44,11 @@ pub fn put_back(out: &mut [u8], words: &[u32]) -> Outcome
     }
 }
 
-// What tells two descriptions apart.
+// The least sample that tells two descriptions apart, or that none does.
 pub fn telling_of(old: &[u8], new: &[u8]) -> Telling
     ensures { λ r. ⌜ r ≡ description.telling (now (old .entry)) (now (new .entry)) ⌝ }
+    ensures meaning { λ r. ⌜ Says (hit (fromBytes (now (old .entry)))) (hit (fromBytes (now (new .entry)))) r ⌝ }
+    ensures { λ r. ⌜ Least (hit (fromBytes (now (old .entry)))) (hit (fromBytes (now (new .entry)))) r ⌝ }
 {
     let a = from_bytes(old);
     let b = from_bytes(new);

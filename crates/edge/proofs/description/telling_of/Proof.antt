@@ -15,7 +15,7 @@ edge-telling-requires c κs = search needs
 
 returns : tie.Need-returns
 unfolding description.telling
-returns c = rw (c .before .before .from-bytes .ensures, c .before .from-bytes2 .ensures) at (c .edge-telling .ensures .0)
+returns c = rw (c .before .before .from-bytes .ensures, c .before .from-bytes2 .ensures) at (c .edge-telling .ensures)
 
 pub telling-of-spec : {M : Type 1} → statement M
 telling-of-spec =

@@ -15,7 +15,7 @@ range-telling-requires c κs = search needs
 
 returns : tie.Need-returns
 unfolding description.telling
-returns c = rw (c .before .before .from-bytes .ensures, c .before .from-bytes2 .ensures) at (c .range-telling .ensures .0)
+returns c = rw (c .before .before .from-bytes .ensures, c .before .from-bytes2 .ensures) at (c .range-telling .ensures)
 
 pub telling-of-spec : {M : Type 1} → statement M
 telling-of-spec = tie.close (tie.spec from-bytes-requires from-bytes-requires-2 range-telling-requires returns)

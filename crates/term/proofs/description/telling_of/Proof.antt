@@ -15,7 +15,7 @@ term-telling-requires c κs = search needs
 
 returns : tie.Need-returns
 unfolding telling
-returns c = rw (c .before .before .from-bytes .ensures, c .before .from-bytes2 .ensures) at (c .term-telling .ensures .0)
+returns c = rw (c .before .before .from-bytes .ensures, c .before .from-bytes2 .ensures) at (c .term-telling .ensures)
 
 pub telling-of-spec : {M : Type 1} → statement M
 telling-of-spec =
