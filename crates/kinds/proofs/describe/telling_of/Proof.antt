@@ -20,15 +20,15 @@ telling-of-requires-4 c κs = search needs
 
 returns : tie.Need-returns
 unfolding tellingOf kindOf
-returns c = rw (c .before .match .keys1) (c .telling-of .ensures)
+returns c = rw (c .before .match .keys1) (c .telling-of .ensures .0)
 
 returns-2 : tie.Need-returns-2
 unfolding tellingOf kindOf
-returns-2 c = rw (c .before .match .keys2) (c .telling-of2 .ensures)
+returns-2 c = rw (c .before .match .keys2) (c .telling-of2 .ensures .0)
 
 returns-3 : tie.Need-returns-3
 unfolding tellingOf kindOf
-returns-3 c = rw (c .before .match .keys3) (c .telling-of3 .ensures)
+returns-3 c = rw (c .before .match .keys3) (c .telling-of3 .ensures .0)
 
 returns-4 : tie.Need-returns-4
 unfolding tellingOf kindOf
