@@ -11,3 +11,4 @@ pub mod Through
 pub mod Numbered
 pub mod Handing
 pub mod Theorems
+pub mod Examples

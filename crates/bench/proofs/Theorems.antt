@@ -1,20 +1,24 @@
 -- What is promised of the bench, of what the call answers and of the words that it leaves. Assumes nothing.
 use Prim.Native.Nat.{ℕ, _+_, _-_, _≤_}
 use mathlib.Core.Path.{_≡_, refl, sym, ap, ap₂, _∙_}
-use mathlib.Core.Bool.{Bool, true, false}
+use mathlib.Core.Bool.{Bool, true, false, cond}
 use mathlib.Core.List.{List, _++_, append-nil}
 use native.Mathlib.Omega.{arith}
 use borrow.Author.Tests.{le-ltb}
-use lib.Dec.{ltb}
-use lib.ListN.{length, length-append, take}
+use lib.Dec.{eqb, ltb, lit<}
+use lib.ListN.{length, length-append, getD, take}
 use Rattle.buffer.specs.declared.Verdict.the-variants.{Accepted}
+use Rattle.state.specs.declared.State.{State}
+use Rattle.state.specs.Fields as state
+use Rattle.state.specs.Words.{wordOf}
+use Rattle.state.proofs.Theorems as state-theorems
 use Rattle.sheet.specs.Reading.{verdict}
 use Rattle.bench.specs.declared.Earlier.{Earlier}
 use Rattle.bench.specs.declared.Earlier.the-variants.{Nothing, Word}
 use Rattle.bench.specs.declared.Run.{Run}
 use Rattle.bench.specs.declared.Benched.{Benched}
 use Rattle.bench.specs.declared.Benched.the-variants.{Done, Refused}
-use Rattle.bench.specs.Run.{handedOn, taken, startAccepted, Subsequence}
+use Rattle.bench.specs.Run.{numberOf, elseOf, isLast, handedOn, taken, startAccepted, Subsequence}
 use Rattle.bench.specs.Call.{mostSamples, delivered, answered, machineOf, benched, leftBy, benchedLeft}
 use Rattle.bench.specs.Handed.{isRun, runOf, wordsOf}
 use Rattle.bench.proofs.Pieces.{handed-pieces, taken-pieces, ended-hands-on, ended-takes-nothing, taken-subsequence}
@@ -195,3 +199,18 @@ pub no-run-refused : (s xs ws : List ℕ) (room : ℕ) → verdict s ≡ Accepte
     → benched s xs (runOf ws) room ≡ Refused 24 0
 unfolding benched answered runOf startAccepted
 no-run-refused s xs ws room a few none = accepts s _ a ∙ rw (none, le-ltb mostSamples (length xs) few)
+
+-- ---- a state's fields
+
+-- what the bench heeds of an accepted state's word are its fields: the number, where 0 counts as 1, the else state, and
+-- the flag last, which is the eighth [R5, S15]
+module _ (s : State) (a : state.Accepted s) where
+  pub number-is-the-field : numberOf (wordOf s) ≡ cond (eqb (s .number) 0) 1 (s .number)
+  unfolding numberOf
+  number-is-the-field = ap (λ (n : ℕ). cond (eqb n 0) 1 n) (state-theorems.number-bits s a)
+
+  pub else-is-the-field : elseOf (wordOf s) ≡ s .branch
+  else-is-the-field = state-theorems.branch-bits s a
+
+  pub last-is-the-field : isLast (wordOf s) ≡ eqb (getD (s .flags) 7 0) 1
+  last-is-the-field = ap (λ (b : ℕ). eqb b 1) (state-theorems.flag-bit s a 7 (lit< tt))

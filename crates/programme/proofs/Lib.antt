@@ -5,3 +5,4 @@ pub mod Rules
 pub mod Looked
 pub mod Filling
 pub mod Theorems
+pub mod Examples
