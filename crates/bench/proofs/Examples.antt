@@ -121,7 +121,8 @@ pub run-ends : wordsOf (handedOn byHand fresh samples) ≡ 3 ∷ 0 ∷ 1 ∷ (hi
 unfolding states byHand hit other capture samples numberOf afterHit moved step takes handedOn
 run-ends = refl
 
--- a machine whose sums see the earlier word alone: the first sample of all is its own, the others have the one before [R3]
+-- a machine whose sums see the earlier word alone: the first sample of all is its own, the others have the one before
+-- [R3]
 pub byEarlier : Machine
 byEarlier = record { sources = λ earlier sample. earlier; matches = λ slot sources. eqb (line sources slot) 1; word = λ state. 1 }
 

@@ -28,9 +28,9 @@ use Rattle.bench.proofs.Succeeding.{accepts, sheet-accepted, bench-did,
 
 -- ---- two pieces
 
--- one call on all samples wrote n words and handed on `final`: a call on the first piece, with room for the k words that
--- it takes, and then one on the second, with room for the rest, do the same. The two may share one room: of `out`, which
--- n words fit, the second call may be lent what the first left behind its k words [D4.2]
+-- one call on all samples wrote n words and handed on `final`: a call on the first piece, with room for the k words
+-- that it takes, and then one on the second, with room for the rest, do the same. The two may share one room: of `out`,
+-- which n words fit, the second call may be lent what the first left behind its k words [D4.2]
 pub record InPieces (s xs ys : List ℕ) (r : Run) (out : List ℕ) (n : ℕ) (final : Run) : Type 0 where
   pub k : ℕ
   pub mid : Run

@@ -197,7 +197,7 @@ pub accepted-short : (s : List ℕ) → streamVerdict s ≡ Accepted → length 
 unfolding streamVerdict
 accepted-short s e = rw all-items at (accepted-fits s 0 0 e)
 
--- the verdict, and so the answer, is settled by the first 2,365 bytes
+-- the verdict, and so the answer, is settled by the first 2,525 bytes
 pub prefix-verdict : (s : List ℕ) (n : ℕ) → longestStream + 5 ≤ n → streamVerdict (take n s) ≡ streamVerdict s
 unfolding streamVerdict
 prefix-verdict s n h = prefix-judged s 0 0 n (rw all-items h)

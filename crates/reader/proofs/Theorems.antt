@@ -105,7 +105,7 @@ read-says stream b room room′ r d = go (streamVerdict stream) refl d
 pub accepted-most : (stream : List ℕ) → streamVerdict stream ≡ Accepted → length stream ≤ longestStream
 accepted-most = accepted-short
 
--- so a program that hands over the first 2,365 bytes of a file, one whole command more, gets the whole file's answer
+-- so a program that hands over the first 2,525 bytes of a file, one whole command more, gets the whole file's answer
 -- [A9]
 pub enough : (stream : List ℕ) → readBack (take (longestStream + 5) stream) ≡ readBack stream
 enough stream = prefix-read stream (longestStream + 5) (le-refl (longestStream + 5))

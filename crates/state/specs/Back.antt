@@ -37,7 +37,7 @@ bitsFrom (suc n) i word = line word i ∷ bitsFrom n (i + 1) word
 unfoldable pub stateOf : ℕ → State
 stateOf w = record { number = w % 0x100000; branch = w / 0x100000 % 16; flags = bitsFrom 8 24 w }
 
--- computed: one word of 32 bits, and nothing else, is some state's; theorem every-word-is-some-state's [B6, C5, C6]
+-- computed: one word of 32 bits, and nothing else, is some state's; theorem every-word-is-some-states [B6, C5, C6]
 abbrev pub known : List ℕ → Bool
 known ws = eqb (length ws) 1 && ltb (getD ws 0 0) (2 ^ 32)
 
