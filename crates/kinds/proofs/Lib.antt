@@ -1,4 +1,5 @@
 pub mod Rows
 pub mod Ways
+pub mod Told
 pub mod Addresses
 pub mod Places

@@ -1,7 +1,9 @@
 // What each kind says of its descriptions.
 ghost use mathlib.Core.Path.{_≡_};
 ghost use Rattle.buffer.specs.Room.{bytes, Delivered};
-ghost use Rattle.kinds.specs.Table.{descriptionFault, wordsOf, descriptionRead, tellingOf};
+ghost use Rattle.lut.specs.Telling.{Says};
+ghost use Rattle.kinds.specs.Table.{descriptionFault, wordsOf, descriptionRead, showsOf, tellingOf};
+ghost use Rattle.kinds.specs.Told.{Differ};
 use crate::EDGES;
 use crate::RANGES;
 use crate::STATES;
@@ -57,6 +59,7 @@ pub fn put_back(out: &mut [u8], section: usize, words: &[u32]) -> Outcome
 // nothing, and of a section that no sheet has there is none.
 pub fn telling_of(section: usize, old: &[u8], new: &[u8]) -> Telling
     ensures { λ r. ⌜ r ≡ tellingOf section (now (old .entry)) (now (new .entry)) ⌝ }
+    ensures meaning { λ r. ⌜ (Differ section (now (old .entry)) (now (new .entry)) → Says (showsOf section (now (old .entry))) (showsOf section (now (new .entry))) r) ⌝ }
 {
     match section {
         TERMS => term::telling_of(old, new),
