@@ -1,4 +1,5 @@
 pub mod Pair
+pub mod Nibbles
 pub mod WordLaws
 pub mod Bits
 pub mod Hits

@@ -1,5 +1,7 @@
 pub mod Tables
 pub mod Made
+pub mod Compared
+pub mod Packed
 pub mod Adder
 pub mod Carry
 pub mod Faults

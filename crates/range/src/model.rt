@@ -1,10 +1,10 @@
 // The model: chain words run on a sample.
 ghost use mathlib.Core.Path.{_≡_};
-ghost use Prim.Native.Nat.{_<_};
-ghost use lib.ListN.{length};
-ghost use Rattle.lines.specs.Line.{choose};
+ghost use Prim.Native.Nat.{ℕ, _+_, _-_, _/_, _%_, _≤_, _<_};
+ghost use lib.ListN.{length, getD};
+ghost use Rattle.lines.specs.Line.{line};
 ghost use Rattle.lut.specs.Answer.{RunNumbered};
-ghost use Rattle.lut.specs.Table.{answerAt};
+ghost use Rattle.lut.specs.Table.{answerAt, high, low};
 ghost use Rattle.range.specs.Model.{tableAt, chainCarry, runRange};
 use lut::Answer;
 
@@ -21,31 +21,37 @@ pub(crate) fn table_at(chain: &[u32], i: u32) -> u32
     }
 }
 
-// What a line makes of the carry: its table answers 1 and passes it on, or 0 and the line's value is the carry.
-fn line_carry(table: u32, value: u32, carry: u32) -> u32
-    ensures { λ r. ⌜ r ≡ choose (answerAt table value) value carry ⌝ }
+// What the tables of sixteen lines answer at 0 and at 1, two bits for each line: of eight words from an index on, the low
+// tables' in the low half, the high tables' in the high half.
+fn packed(chain: &[u32], from: usize) -> u32
+    requires { ⌜ (length (now chain) ≡ 16) × (from ≤ 8) ⌝ }
+    ensures { λ r. ⌜ ((j : ℕ) → j < 16 → line r j ≡ answerAt (low (getD (now (chain .entry)) (from + (7 - j / 2)) 0)) (j % 2)) ⌝ }
+    ensures { λ r. ⌜ ((j : ℕ) → j < 16 → line r (j + 16) ≡ answerAt (high (getD (now (chain .entry)) (from + (7 - j / 2)) 0)) (j % 2)) ⌝ }
 {
-    if lut::answer_at(table, value) == 0 {
-        value
-    } else {
-        carry
+    let mut r: u32 = 0;
+    let mut k: usize = 0;
+    while k < 8 {
+        r = r * 4 + (chain[from + k] & 0x3_0003);
+        k += 1;
     }
+    r
 }
 
-// The carry that leaves line 31 of a chain of sixteen words; the last word has the lines 1 and 0.
+// The carry that leaves line 31 of a chain of sixteen words: the value of the highest line whose table answers 0. Such
+// lines that are 1 and those that are 0 are set apart, and the greater number has the highest one.
 fn chain_carry(chain: &[u32], sample: u32) -> u32
     requires { ⌜ length (now chain) ≡ 16 ⌝ }
     ensures { λ r. ⌜ r ≡ chainCarry (now (chain .entry)) sample ⌝ }
 {
-    let mut carry: u32 = 0;
-    let mut i = 16;
-    while 0 < i {
-        i -= 1;
-        let two = sample >> (30 - 2 * i);
-        let even = line_carry(chain[i] % 65536, two % 2, carry);
-        carry = line_carry(chain[i] / 65536, two / 2 % 2, even);
-    }
-    carry
+    let above = packed(chain, 0);
+    let below = packed(chain, 8);
+    let even = above % 65536 * 65536 + below % 65536;
+    let odd = above / 65536 * 65536 + below / 65536;
+    let at_zero = (even & 0x5555_5555) | ((odd << 1) & 0xAAAA_AAAA);
+    let at_one = ((even >> 1) & 0x5555_5555) | (odd & 0xAAAA_AAAA);
+    let ones = sample ^ (sample & at_one);
+    let zeros = 0xFFFF_FFFF ^ (sample | at_zero);
+    if zeros < ones { 1 } else { 0 }
 }
 
 // The model, on any lent words: the lower chain's sixteen, then the upper chain's.
@@ -57,11 +63,6 @@ pub fn run_range(words: &[u32], sample: u32) -> Answer
         return Answer::WrongCount(32);
     }
     let lower = chain_carry(&words[..16], sample);
-    if lower == 1 {
-        let upper = chain_carry(&words[16..], sample);
-        if upper == 0 {
-            return Answer::Hit;
-        }
-    }
-    Answer::Miss
+    let upper = chain_carry(&words[16..], sample);
+    lut::hit_or_miss((lower == 1) & (upper == 0))
 }

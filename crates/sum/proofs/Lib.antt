@@ -1,3 +1,4 @@
+pub mod Past
 pub mod Tables
 pub mod Meanings
 pub mod Sources

@@ -1,6 +1,6 @@
 // The operation words by code, and the codes of words.
 ghost use mathlib.Core.Path.{_≡_};
-ghost use Rattle.sum.specs.Operation.{opWord, opCode, codesAccepted};
+ghost use Rattle.sum.specs.Operation.{opCode, codesAccepted};
 
 // The greatest operation code.
 const LAST_CODE: u8 = 9;
@@ -51,14 +51,6 @@ pub(crate) fn codes_accepted(ops: &[u8]) -> bool
     ensures { λ r. ⌜ r ≡ codesAccepted (now (ops .entry)) ⌝ }
 {
     compare::all_within(0, LAST_CODE, ops)
-}
-
-// The word of an operation code in one of the tables, which is lent; 0 for a byte that is no code.
-pub(crate) fn op_word(table: &[u16], code: u8) -> u16
-    ensures { λ r. ⌜ r ≡ opWord (now (table .entry)) code ⌝ }
-{
-    let at = code as usize;
-    if at < table.len() { table[at] } else { 0 }
 }
 
 // The code of a word in one of the tables; 10 for a word that is not there. All ten are compared, the first last: a loop
