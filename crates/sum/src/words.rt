@@ -1,9 +1,12 @@
 // The chain words of a sum. An operation's word is found by a match with all sixteen cases, of which the compiler makes a
-// static table. A constant array is built on the stack at each call, and a match with ten cases branches on the code.
+// static table: a constant array is built on the stack at each call, and a match with ten cases branches on the code.
 ghost use mathlib.Core.Path.{_≡_};
 ghost use Prim.Native.Nat.{_<_};
 ghost use Rattle.sum.specs.Operation.{pairOps, midOps, finalOps, opWord};
 ghost use Rattle.sum.specs.Words.{joined, wordsOf};
+use crate::operation::FINAL;
+use crate::operation::MID;
+use crate::operation::PAIR;
 
 // The word of a pair's operation, for four bits.
 fn pair_word_at(code: u8) -> u32
@@ -11,16 +14,16 @@ fn pair_word_at(code: u8) -> u32
     ensures { λ r. ⌜ (r ≡ opWord pairOps code) × (r < 65536) ⌝ }
 {
     match code % 16 {
-        0 => 0x0000,
-        1 => 0xFFFF,
-        2 => 0x8000,
-        3 => 0x7FFF,
-        4 => 0xF888,
-        5 => 0x0777,
-        6 => 0x7888,
-        7 => 0x8777,
-        8 => 0x8888,
-        9 => 0xF000,
+        0 => PAIR[0] as u32,
+        1 => PAIR[1] as u32,
+        2 => PAIR[2] as u32,
+        3 => PAIR[3] as u32,
+        4 => PAIR[4] as u32,
+        5 => PAIR[5] as u32,
+        6 => PAIR[6] as u32,
+        7 => PAIR[7] as u32,
+        8 => PAIR[8] as u32,
+        9 => PAIR[9] as u32,
         10 => 0,
         11 => 0,
         12 => 0,
@@ -44,16 +47,16 @@ fn mid_word_at(code: u8) -> u32
     ensures { λ r. ⌜ (r ≡ opWord midOps code) × (r < 65536) ⌝ }
 {
     match code % 16 {
-        0 => 0x0000,
-        1 => 0xFFFF,
-        2 => 0x8000,
-        3 => 0x7FFF,
-        4 => 0xFFFE,
-        5 => 0x0001,
-        6 => 0x0116,
-        7 => 0xFEE9,
-        8 => 0xEEEE,
-        9 => 0xFFF0,
+        0 => MID[0] as u32,
+        1 => MID[1] as u32,
+        2 => MID[2] as u32,
+        3 => MID[3] as u32,
+        4 => MID[4] as u32,
+        5 => MID[5] as u32,
+        6 => MID[6] as u32,
+        7 => MID[7] as u32,
+        8 => MID[8] as u32,
+        9 => MID[9] as u32,
         10 => 0,
         11 => 0,
         12 => 0,
@@ -77,16 +80,16 @@ fn final_word_at(code: u8) -> u32
     ensures { λ r. ⌜ (r ≡ opWord finalOps code) × (r < 65536) ⌝ }
 {
     match code % 16 {
-        0 => 0x0000,
-        1 => 0xFFFF,
-        2 => 0x0008,
-        3 => 0x0007,
-        4 => 0x000E,
-        5 => 0x0001,
-        6 => 0x0006,
-        7 => 0x0009,
-        8 => 0x000A,
-        9 => 0x000C,
+        0 => FINAL[0] as u32,
+        1 => FINAL[1] as u32,
+        2 => FINAL[2] as u32,
+        3 => FINAL[3] as u32,
+        4 => FINAL[4] as u32,
+        5 => FINAL[5] as u32,
+        6 => FINAL[6] as u32,
+        7 => FINAL[7] as u32,
+        8 => FINAL[8] as u32,
+        9 => FINAL[9] as u32,
         10 => 0,
         11 => 0,
         12 => 0,
