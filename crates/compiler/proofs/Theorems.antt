@@ -43,8 +43,8 @@ use Rattle.state.specs.Description as state-kind
 use Rattle.kinds.specs.Table as table
 use Rattle.kinds.specs.Table.{TERMS, RANGES, EDGES, SUMS, STATES, sections, kindOf, mostOf, sendingOrder}
 use Rattle.kinds.proofs.Ways.{chains-flat}
-use Rattle.compiler.specs.Items.{lengthsOf, sizeOf, itemSize}
-use Rattle.compiler.specs.Stream.{streamOf, longestStream, compiled}
+use Rattle.compiler.specs.Items.{itemSize}
+use Rattle.compiler.specs.Stream.{streamOf, longestBy, longestStream, compiled}
 use Rattle.compiler.specs.Chains.{Loaded, sheetLoads, chainWordsOf}
 use Rattle.compiler.proofs.Joined.{items, sent, stream-sent}
 use Rattle.kinds.proofs.Addresses.{sent-known}
@@ -77,11 +77,6 @@ short-unchanged s room r room′ ok short d =
 
 -- ---- lengths
 
--- the longest that the items of some sections can be: each section has its most
-unfoldable pub longestBy : List ℕ → ℕ
-longestBy [] = 0
-longestBy (k ∷ ks) = mostOf k * itemSize k + longestBy ks
-
 -- how long they are
 sentSize : List ℕ → List (List (List ℕ)) → ℕ
 sentSize [] p = 0
@@ -100,15 +95,19 @@ sent-at-most s ok (k ∷ ks) h =
     let few : length (getD (parse s) k []) * itemSize k ≤ mostOf k * itemSize k = mul-le-mul-right (itemSize k) (part-most s ok k (h 0 (omega arith))) in
     omega (arith, few, sent-at-most s ok ks (λ i l. h (suc i) (omega arith)))
 
+sent-full : (order : List ℕ) → ((i : ℕ) → i < length order → getD order i 0 < sections) → sentSize order (parse full) ≡ longestBy order
+unfolding sentSize longestBy
+sent-full [] h = refl
+sent-full (k ∷ ks) h =
+    ap₂ (λ (n rest : ℕ). n * itemSize k + rest) (full-counts k (h 0 (omega arith))) (sent-full ks (λ i l. h (suc i) (omega arith)))
+
 -- no sheet makes more bytes than the most, [W18, A9]
 pub at-most : (s : List ℕ) → verdict s ≡ Verdict.Accepted → length (streamOf (parse s)) ≤ longestStream
-unfolding longestBy mostOf itemSize lengthsOf table.chainCount table.chainLength kindOf sizeOf
 at-most s ok = rw (stream-sent (parse s), sent-length sendingOrder (parse s)) (sent-at-most s ok sendingOrder sent-known)
 
 -- and the full one makes as many [W18]
 pub full-has : (verdict full ≡ Verdict.Accepted) × (length (streamOf (parse full)) ≡ longestStream)
-unfolding sentSize itemSize lengthsOf table.chainCount table.chainLength kindOf sizeOf
-full-has = (full-accepted, omega (arith, ap length (stream-sent (parse full)), sent-length sendingOrder (parse full), full-counts))
+full-has = (full-accepted, ap length (stream-sent (parse full)) ∙ sent-length sendingOrder (parse full) ∙ sent-full sendingOrder sent-known)
 
 -- ---- order
 

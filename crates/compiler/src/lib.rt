@@ -1,8 +1,9 @@
 // The compiler: from a set-up sheet to the commands that load its chains, by rising address.
 // Promises: a sheet's first fault by number and place, or its commands and their length, or 12 and the bytes needed; a refusal writes nothing.
 // Rests on: sheet (its verdict and where its sections lie), kinds (words, addresses), command (chains), buffer (lent room).
+ghost use mathlib.Core.Path.{_≡_};
 ghost use Rattle.buffer.specs.Room.{Delivered};
-ghost use Rattle.compiler.specs.Stream.{compiled};
+ghost use Rattle.compiler.specs.Stream.{compiled, longestStream};
 use buffer::Outcome;
 use stream::put_stream;
 
@@ -11,8 +12,15 @@ mod stream;
 
 pub use items::item_size;
 
-// The most bytes that the commands of a sheet take up (proofs/Theorems, at-most).
-pub const LONGEST: usize = 2520;
+// The most bytes that the commands of a sheet take up: a select for each chain and a load for each word.
+pub const LONGEST: usize = command::COMMAND_SIZE * (kinds::ALL_CHAINS + kinds::ALL_WORDS);
+
+// The same as a call, whose contract holds the constant to its definition.
+pub fn longest_stream() -> usize
+    ensures { λ r. ⌜ r ≡ longestStream ⌝ }
+{
+    LONGEST
+}
 
 // The commands of a sheet, written at the start of `out`.
 pub fn compile(sheet: &[u8], out: &mut [u8]) -> Outcome

@@ -6,7 +6,7 @@ use mathlib.Core.List.{List, [], _∷_, _++_}
 use mathlib.Core.Path.{_≡_}
 use lib.Count.{ones, trailingZeros}
 use lib.Dec.{T}
-use lib.ListN.{replicate}
+use lib.ListN.{length, replicate}
 use Rattle.peek.specs.Bytes.{u32At}
 use Rattle.lines.specs.Line.{overLines, flipLine}
 use Rattle.lines.specs.Gather.{gathered, scattered, dropLowest}
@@ -15,7 +15,7 @@ use Rattle.lut.specs.declared.Telling.the-variants.{Alike, Apart}
 use Rattle.compare.specs.Same.{same}
 use Rattle.compare.specs.Within.{allWithin}
 use Rattle.buffer.specs.Verdict.{isAccepted}
-use Rattle.records.specs.Sections.{sections, fieldBytes, kindOf, mostOf, descriptionSize, descriptionFault}
+use Rattle.records.specs.Sections.{sections, labelSize, fieldBytes, kindOf, mostOf, descriptionSize, descriptionFault}
 use Rattle.records.specs.Records.{recordsFrom, find}
 use Rattle.sheet.specs.Reading.{among, recordFault, recordsVerdict, countVerdict, sectionVerdict, sectionsVerdict, verdict}
 use Rattle.sheet.specs.Parsed.{joined, render, sectionsFrom, parse}
@@ -54,18 +54,22 @@ recordOf slot label numbers = slot ∷ (label ++ fieldBytes numbers)
 stateOf : (slot : ℕ) (label : List ℕ) (number : ℕ) → List ℕ
 stateOf slot label number = recordOf slot label (number ∷ []) ++ replicate 9 0
 
--- DOORLOCK; DOORLK and two spaces; two more labels
+-- a name and spaces, as long as a label is
+spaced : (name : List ℕ) → List ℕ
+spaced name = name ++ replicate (labelSize - length name) 32
+
+-- DOORLOCK, DOORLK, and two more labels
 doorlock : List ℕ
-doorlock = 68 ∷ 79 ∷ 79 ∷ 82 ∷ 76 ∷ 79 ∷ 67 ∷ 75 ∷ []
+doorlock = spaced (68 ∷ 79 ∷ 79 ∷ 82 ∷ 76 ∷ 79 ∷ 67 ∷ 75 ∷ [])
 
 doorlk : List ℕ
-doorlk = 68 ∷ 79 ∷ 79 ∷ 82 ∷ 76 ∷ 75 ∷ 32 ∷ 32 ∷ []
+doorlk = spaced (68 ∷ 79 ∷ 79 ∷ 82 ∷ 76 ∷ 75 ∷ [])
 
 left : List ℕ
-left = replicate 8 76
+left = replicate labelSize 76
 
 right : List ℕ
-right = replicate 8 82
+right = replicate labelSize 82
 
 -- an old sheet, a new sheet, and the text of their notice
 pub record Pair : Type 0 where
@@ -155,7 +159,7 @@ allGive (p ∷ ps) =
     isAccepted (verdict (p .old)) && isAccepted (verdict (p .new)) && same (noticeText (p .old) (p .new)) (p .text) && allGive ps
 
 pub notices-hold : T (allGive pairs)
-unfolding allGive pairs pair sheetOf edgesOf programmeOf recordOf stateOf doorlock doorlk left right line TERM RANG EDGE SUMS STAT NAME NEW GONE WORD ALTR ALTR4 fieldBytes render joined parse sectionsFrom recordsFrom kindOf descriptionSize mostOf find same u32At noticeText noticeLines sectionsLines linesFrom slotLines sharedLines nameOf tellingOf term-kind.telling range-telling-kind.telling edge-kind.telling tellBy without text.render text.renderAll termTelling trailingZeros rangeTelling tellReduced tellBounds tellMasks firstDiffer tellLine turnSample turnValue reduceOf reduceFrom gathered scattered dropLowest flipLine rangeHit among allWithin descriptionFault overLines term-kind.fault range-kind.fault edge-kind.fault sum-kind.fault state-kind.fault rangeFault ones recordFault recordsVerdict countVerdict sectionVerdict sectionsVerdict verdict
+unfolding allGive pairs pair sheetOf edgesOf programmeOf recordOf stateOf spaced doorlock doorlk left right line TERM RANG EDGE SUMS STAT NAME NEW GONE WORD ALTR ALTR4 fieldBytes render joined parse sectionsFrom recordsFrom kindOf descriptionSize mostOf find same u32At noticeText noticeLines sectionsLines linesFrom slotLines sharedLines nameOf tellingOf term-kind.telling range-telling-kind.telling edge-kind.telling tellBy without text.render text.renderAll termTelling trailingZeros rangeTelling tellReduced tellBounds tellMasks firstDiffer tellLine turnSample turnValue reduceOf reduceFrom gathered scattered dropLowest flipLine rangeHit among allWithin descriptionFault overLines term-kind.fault range-kind.fault edge-kind.fault sum-kind.fault state-kind.fault rangeFault ones recordFault recordsVerdict countVerdict sectionVerdict sectionsVerdict verdict
 notices-hold = tt
 
 -- ---- sums: what tells two apart is found by halves (sum_telling, Examples), since trying 65,536 patterns is no computation

@@ -19,7 +19,7 @@ use Rattle.compare.specs.Same.{same}
 use Rattle.records.specs.Sections.{labelSize, fieldBytes, kindOf, mostOf, descriptionSize, descriptionFault}
 use Rattle.sheet.specs.Reading.{among, recordFault, recordsVerdict, countVerdict, sectionVerdict, sectionsVerdict, verdict}
 use Rattle.records.specs.Records.{recordsFrom, find}
-use Rattle.sheet.specs.Parsed.{joined, render, longestSheet, sectionsFrom, parse}
+use Rattle.sheet.specs.Parsed.{joined, render, longestFrom, longestSheet, sectionsFrom, parse}
 use Rattle.sheet.proofs.Examples.{full}
 use Rattle.sheet.proofs.Theorems as sheet
 use Rattle.term.specs.Telling.{termTelling}
@@ -29,16 +29,17 @@ use Rattle.range_telling.specs.Telling.{turnValue, turnSample, tellLine, firstD
 use Rattle.edge.specs.Telling.{without, tellBy}
 use Rattle.notice.specs.Text as text
 use Rattle.notice.specs.Findings.{sharedLines, slotLines}
-use Rattle.notice.specs.Notice.{linesFrom, sectionsLines, noticeLines, noticeText, longestNotice, NoticeGiven}
+use Rattle.notice.specs.Notice.{linesFrom, sectionsLines, noticeLines, noticeText, slotMost, mostText, longestNotice, NoticeGiven}
 use Rattle.notice.specs.declared.Noticed.{Noticed}
 use Rattle.notice.specs.declared.Noticed.the-variants as Noticed
-use Rattle.compiler.specs.Stream.{streamOf, longestStream, compiled}
+use Rattle.compiler.specs.Stream.{streamOf, longestBy, longestStream, compiled}
+use Rattle.compiler.specs.Items.{sizeOf, itemSize}
 use Rattle.reader.specs.Judging.{streamVerdict}
 use Rattle.reader.specs.Back.{sheetIn, readBack}
 use Rattle.reader.proofs.Theorems as reader
 use Rattle.compiler.proofs.Theorems as compiler
 use Rattle.notice.proofs.Lengths as notice
-use Rattle.kinds.specs.Table.{nameOf, tellingOf}
+use Rattle.kinds.specs.Table.{nameOf, tellingOf, chainCount, chainLength, lengthsOf}
 use Rattle.range_telling.specs.Description as range-telling-kind
 use Rattle.edge.specs.Description as edge-kind
 use Rattle.term.specs.Description as term-kind
@@ -78,6 +79,7 @@ newer =
 
 -- no notice is longer than 2,412 bytes, and one of two accepted sheets is as long [N11]
 pub longest-notice : (old new : List ℕ) → length (noticeText old new) ≤ 2412
+unfolding mostText slotMost mostOf kindOf
 longest-notice = notice.at-most
 
 pub longest-notice-reached : length (noticeText older newer) ≡ 2412
@@ -90,16 +92,20 @@ longest-notice-sheets = (refl, refl)
 
 -- no accepted sheet is longer than 1,571 bytes, and one is as long [S8]
 pub longest-sheet : (s : List ℕ) → verdict s ≡ Accepted → length s ≤ 1571
+unfolding longestFrom mostOf descriptionSize kindOf
 longest-sheet = sheet.at-most
 
 pub longest-sheet-reached : (verdict full ≡ Accepted) × (length full ≡ 1571)
+unfolding longestFrom mostOf descriptionSize kindOf
 longest-sheet-reached = sheet.one-has
 
 -- no sheet makes more than 2,520 bytes of commands, and a full one makes as many [W18]
 pub most-commands : (s : List ℕ) → verdict s ≡ Accepted → length (streamOf (parse s)) ≤ 2520
+unfolding longestBy mostOf itemSize sizeOf lengthsOf chainCount chainLength kindOf
 most-commands = compiler.at-most
 
 pub most-commands-reached : (verdict full ≡ Accepted) × (length (streamOf (parse full)) ≡ 2520)
+unfolding longestBy mostOf itemSize sizeOf lengthsOf chainCount chainLength kindOf
 most-commands-reached = compiler.full-has
 
 -- a program that reads this much of a file judges all of it

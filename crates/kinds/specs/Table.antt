@@ -1,6 +1,6 @@
 -- The table of sections: the only place that knows how many kinds of record there are, and what each has. A section is
 -- known by its number; what one has and another has not is a field of its row.
-use Prim.Native.Nat.{ℕ, zero, suc, _+_, _*_}
+use Prim.Native.Nat.{ℕ, zero, suc, _+_, _*_, max}
 use mathlib.Core.Bool.{cond}
 use mathlib.Core.List.{List, [], _∷_}
 use lib.Dec.{eqb, ltb}
@@ -299,6 +299,15 @@ rowOf k = record { name = nameOf k; letter = letterOf k; most = mostOf k; size =
 -- how many words each chain of section k's items has [W4, W6, W11, W14, W19]
 unfoldable pub lengthsOf : (k : ℕ) → List ℕ
 lengthsOf k = replicate (chainCount k) (chainLength k)
+
+-- the most words that a description of n sections from section k on has [W4, W6, W11, W14, W19]
+unfoldable pub mostWordsFrom : (n k : ℕ) → ℕ
+mostWordsFrom zero k = 0
+mostWordsFrom (suc n) k = max (chainCount k * chainLength k) (mostWordsFrom n (k + 1))
+
+-- the most words that a description of any section has: a range's [W6]
+abbrev pub mostWords : ℕ
+mostWords = mostWordsFrom sections 0
 
 -- words cut into chains of so many words each [W1, W6]
 unfoldable pub pieces : (lengths words : List ℕ) → List (List ℕ)

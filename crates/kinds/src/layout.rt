@@ -1,6 +1,6 @@
 // The numbers of each section: zeros for one that no sheet has.
 ghost use mathlib.Core.Path.{_≡_};
-ghost use Rattle.kinds.specs.Table.{rowOf, letterOf, chainCount, chainLength, addressOf};
+ghost use Rattle.kinds.specs.Table.{rowOf, letterOf, chainCount, chainLength, mostWords, addressOf};
 use crate::EDGES;
 use crate::RANGES;
 use crate::Row;
@@ -8,7 +8,7 @@ use crate::STATES;
 use crate::SUMS;
 use crate::TERMS;
 
-const TERM: Row = Row {
+pub const TERM: Row = Row {
     name: *b"TERM",
     letter: b'T',
     most: 10,
@@ -18,7 +18,7 @@ const TERM: Row = Row {
     entry: 2,
 };
 
-const RANGE: Row = Row {
+pub const RANGE: Row = Row {
     name: *b"RANG",
     letter: b'R',
     most: 2,
@@ -28,7 +28,7 @@ const RANGE: Row = Row {
     entry: 3,
 };
 
-const EDGE: Row = Row {
+pub const EDGE: Row = Row {
     name: *b"EDGE",
     letter: b'E',
     most: 2,
@@ -38,7 +38,7 @@ const EDGE: Row = Row {
     entry: 3,
 };
 
-const SUM: Row = Row {
+pub const SUM: Row = Row {
     name: *b"SUMS",
     letter: b'S',
     most: 48,
@@ -48,7 +48,7 @@ const SUM: Row = Row {
     entry: 6,
 };
 
-const STATE: Row = Row {
+pub const STATE: Row = Row {
     name: *b"STAT",
     letter: b'Q',
     most: 16,
@@ -67,6 +67,37 @@ const NONE: Row = Row {
     each: 0,
     entry: 0,
 };
+
+// All sections with their most records: how many records these are, and how many bytes of descriptions, chains, words and
+// numbers of a bench's table they have.
+pub const ALL_RECORDS: usize = TERM.most + RANGE.most + EDGE.most + SUM.most + STATE.most;
+
+pub const ALL_BYTES: usize = TERM.most * TERM.size
+    + RANGE.most * RANGE.size
+    + EDGE.most * EDGE.size
+    + SUM.most * SUM.size
+    + STATE.most * STATE.size;
+
+pub const ALL_CHAINS: usize = TERM.most * TERM.chains
+    + RANGE.most * RANGE.chains
+    + EDGE.most * EDGE.chains
+    + SUM.most * SUM.chains
+    + STATE.most * STATE.chains;
+
+pub const ALL_WORDS: usize = TERM.most * TERM.chains * TERM.each
+    + RANGE.most * RANGE.chains * RANGE.each
+    + EDGE.most * EDGE.chains * EDGE.each
+    + SUM.most * SUM.chains * SUM.each
+    + STATE.most * STATE.chains * STATE.each;
+
+pub const ALL_ENTRIES: usize = TERM.most * TERM.entry
+    + RANGE.most * RANGE.entry
+    + EDGE.most * EDGE.entry
+    + SUM.most * SUM.entry
+    + STATE.most * STATE.entry;
+
+// The most words that a description has: a range's.
+pub const MOST_WORDS: usize = RANGE.chains * RANGE.each;
 
 pub fn row_of(section: usize) -> Row
     ensures { λ r. ⌜ r ≡ rowOf section ⌝ }
@@ -103,6 +134,13 @@ pub fn chain_length(section: usize) -> usize
 {
     let row = row_of(section);
     row.each
+}
+
+// The most words that a description of any section has.
+pub fn most_words() -> usize
+    ensures { λ r. ⌜ r ≡ mostWords ⌝ }
+{
+    MOST_WORDS
 }
 
 // The address of a slot.

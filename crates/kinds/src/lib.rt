@@ -13,10 +13,22 @@ pub use describe::put_words;
 pub use describe::telling_of;
 pub use entries::put_entry;
 pub use entries::put_missing;
+pub use layout::ALL_BYTES;
+pub use layout::ALL_CHAINS;
+pub use layout::ALL_ENTRIES;
+pub use layout::ALL_RECORDS;
+pub use layout::ALL_WORDS;
+pub use layout::EDGE;
+pub use layout::MOST_WORDS;
+pub use layout::RANGE;
+pub use layout::STATE;
+pub use layout::SUM;
+pub use layout::TERM;
 pub use layout::address;
 pub use layout::chain_count;
 pub use layout::chain_length;
 pub use layout::letter;
+pub use layout::most_words;
 pub use layout::row_of;
 
 // The sections by number.
@@ -34,9 +46,6 @@ pub const SECTIONS: usize = 5;
 
 // The sections in the order in which they are sent: by rising address, so that the sheet's last goes first.
 pub const SENDING_ORDER: [usize; SECTIONS] = [STATES, TERMS, RANGES, EDGES, SUMS];
-
-// The most words that a description has.
-pub const MOST_WORDS: usize = 32;
 
 // The numbers of a section.
 pub struct Row {

@@ -34,7 +34,7 @@ use Rattle.notice.specs.declared.Finding.the-variants.{New, Gone, Name, 
 use Rattle.notice.specs.declared.Line.{Line}
 use Rattle.notice.specs.Text.{changeText, findingText, renderAll}
 use Rattle.notice.specs.Findings.{line, unlessSame, sharedLines, slotLines}
-use Rattle.notice.specs.Notice.{linesFrom, sectionsLines, noticeLines, noticeText, longestNotice}
+use Rattle.notice.specs.Notice.{linesFrom, sectionsLines, noticeLines, noticeText, changeMost, slotMost, mostText, longestNotice}
 use Rattle.notice.proofs.Lines.{renderAll-append, one-length}
 use Rattle.notice.proofs.Slots.{shared-length}
 
@@ -86,10 +86,6 @@ sum-within least = go (ltb least patterns)
     go true = omega arith
     go false = omega arith
 
--- by the section's number
-abbrev changeMost : ℕ → ℕ
-changeMost k = getD (22 ∷ 22 ∷ 31 ∷ 18 ∷ 13 ∷ []) k 13
-
 change-most : (k : ℕ) (d e : List ℕ) → 8 + length (changeText (tellingOf k d e)) ≤ changeMost k
 unfolding tellingOf kindOf term.telling range-telling.telling rangeTelling edge.telling sum-telling.telling sumTelling
 change-most zero d e = term-within (term.fromBytes d .target) (term.fromBytes d .mask) (term.fromBytes e .target) (term.fromBytes e .mask)
@@ -100,9 +96,6 @@ change-most (suc (suc (suc (suc zero)))) d e = omega arith
 change-most (suc (suc (suc (suc (suc k))))) d e = omega arith
 
 -- ---- a slot
-
-slotMost : ℕ → ℕ
-slotMost k = 13 + changeMost k
 
 -- a line or none
 unless-length : (old new : List ℕ) (l : Line) (m : ℕ) → 8 + length (findingText (l .finding)) ≤ m → length (renderAll (unlessSame old new l)) ≤ m
@@ -143,11 +136,6 @@ lines-length k (suc n) slot os ns =
     rw (renderAll-append now rest, length-append (renderAll now) (renderAll rest), suc-mul n (slotMost k))
     (omega (arith, slot-length k slot (find slot os) (find slot ns), lines-length k n (slot + 1) os ns))
 
--- the most text of n sections from section k on
-mostText : (n k : ℕ) → ℕ
-mostText zero k = 0
-mostText (suc n) k = mostOf k * slotMost k + mostText n (k + 1)
-
 sections-length : (n k : ℕ) (p q : List (List (List ℕ))) → length (renderAll (sectionsLines n k p q)) ≤ mostText n k
 unfolding sectionsLines renderAll mostText
 sections-length zero k p q = omega arith
@@ -157,11 +145,7 @@ sections-length (suc n) k p q =
     rw (renderAll-append now rest, length-append (renderAll now) (renderAll rest))
     (omega (arith, lines-length k (mostOf k) 0 (getD p k []) (getD q k []), sections-length n (k + 1) p q))
 
-all-text : mostText sections 0 ≡ longestNotice
-unfolding mostText slotMost mostOf kindOf
-all-text = refl
-
 -- no notice is longer than the longest [N11, A9]
 pub at-most : (old new : List ℕ) → length (noticeText old new) ≤ longestNotice
 unfolding noticeText noticeLines
-at-most old new = omega (arith, sections-length sections 0 (parse old) (parse new), all-text)
+at-most old new = omega (arith, sections-length sections 0 (parse old) (parse new))

@@ -1,8 +1,8 @@
 -- The notice of two sheets as structured lines, and what the call answers and leaves.
-use Prim.Native.Nat.{ℕ, zero, suc, _+_}
+use Prim.Native.Nat.{ℕ, zero, suc, _+_, _*_}
 use mathlib.Core.Path.{_≡_}
 use mathlib.Core.Bool.{cond}
-use mathlib.Core.List.{List, [], _++_}
+use mathlib.Core.List.{List, [], _∷_, _++_}
 use lib.Dec.{leb}
 use lib.ListN.{length, getD}
 use Rattle.buffer.specs.Room.{fill}
@@ -37,9 +37,23 @@ noticeLines old new = sectionsLines sections 0 (parse old) (parse new)
 unfoldable pub noticeText : (old new : List ℕ) → List ℕ
 noticeText old new = renderAll (noticeLines old new)
 
--- the most of them that there can be; theorem at-most [N11]
+-- the most bytes of a line on a changed description of section k: with a sample, with two, with sources, with nothing
+-- [N4, N6, N8]
+abbrev pub changeMost : (k : ℕ) → ℕ
+changeMost k = getD (22 ∷ 22 ∷ 31 ∷ 18 ∷ []) k 13
+
+-- the most bytes of the lines on a slot of section k: a line NAME before that one [N5, N7]
+unfoldable pub slotMost : (k : ℕ) → ℕ
+slotMost k = 13 + changeMost k
+
+-- the most bytes of the lines of n sections from section k on [N11]
+unfoldable pub mostText : (n k : ℕ) → ℕ
+mostText zero k = 0
+mostText (suc n) k = mostOf k * slotMost k + mostText n (k + 1)
+
+-- the most bytes of a notice; theorem at-most, and the number in demands/proofs/Sizes [N11]
 abbrev pub longestNotice : ℕ
-longestNotice = 2412
+longestNotice = mostText sections 0
 
 -- the old sheet's refusal, else the new sheet's, else whether there is room: 12 is of neither [O4, O7, A3, A4, F12]
 abbrev pub answerOf : (old new : Verdict) (text : List ℕ) (room : ℕ) → Noticed

@@ -4,12 +4,24 @@
 mod put;
 mod text;
 
+ghost use mathlib.Core.Path.{_≡_};
 ghost use lib.ListN.{length};
-ghost use Rattle.notice.specs.Notice.{NoticeGiven, NoticeNumbered};
+ghost use Rattle.notice.specs.Notice.{NoticeGiven, NoticeNumbered, longestNotice};
 use lut::Telling;
 
-// The most bytes that a notice has (proofs/Lengths, at-most): the room in which it is built before its length is known.
-pub const LONGEST: usize = 2412;
+// The most bytes that a notice has, the room in which it is built before its length is known: for each record a line NAME
+// and a line ALTR of 13 bytes, and what the second shows, 9 bytes of a term or a range, 18 of an edge, 5 of a sum.
+pub const LONGEST: usize = 26 * kinds::ALL_RECORDS
+    + 9 * (kinds::TERM.most + kinds::RANGE.most)
+    + 18 * kinds::EDGE.most
+    + 5 * kinds::SUM.most;
+
+// The same as a call, whose contract holds the constant to its definition.
+pub fn longest_notice() -> usize
+    ensures { λ r. ⌜ r ≡ longestNotice ⌝ }
+{
+    LONGEST
+}
 
 // What a line says of a slot.
 pub enum Finding {

@@ -11,7 +11,7 @@ mod entries;
 mod sections;
 
 // How many numbers a table has (proofs/Theorems, table-length).
-pub const TABLE_LENGTH: usize = 336;
+pub const TABLE_LENGTH: usize = kinds::ALL_ENTRIES;
 
 // The table of a sheet, written at the start of `out`.
 pub fn prepare(sheet: &[u8], out: &mut [u32]) -> Outcome

@@ -21,8 +21,8 @@ pub(crate) fn table_at(chain: &[u32], i: u32) -> u32
     }
 }
 
-// What the tables of sixteen lines answer at 0 and at 1, two bits for each line: of eight words from an index on, the low
-// tables' in the low half, the high tables' in the high half.
+// What the tables of sixteen lines answer at 0 and at 1, two bits for each line. Of eight words from an index on, the
+// low tables stand in the low half, the high tables in the high half.
 fn packed(chain: &[u32], from: usize) -> u32
     requires { ⌜ (length (now chain) ≡ 16) × (from ≤ 8) ⌝ }
     ensures { λ r. ⌜ ((j : ℕ) → j < 16 → line r j ≡ answerAt (low (getD (now (chain .entry)) (from + (7 - j / 2)) 0)) (j % 2)) ⌝ }

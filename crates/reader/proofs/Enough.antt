@@ -22,7 +22,7 @@ use Rattle.command.specs.Reading.{number, commandVerdict, loadsVerdict, wordsIn
 use Rattle.records.specs.Sections.{sections, kindOf, mostOf}
 use Rattle.sheet.specs.Parsed.{render}
 use Rattle.records.proofs.Records.{drop-take}
-use Rattle.compiler.specs.Stream.{longestStream}
+use Rattle.compiler.specs.Stream.{longestBy, longestStream}
 use Rattle.compiler.specs.Items.{addressOf, lengthsOf, sizeOf, itemSize}
 use Rattle.compiler.specs.Chains.{wordsRead}
 use Rattle.kinds.specs.Table.{slotFrom, slotAt, sectionFrom, sectionAt}
@@ -134,7 +134,7 @@ module _ (low a : ℕ) (h : low ≤ a) (known : sectionAt a < sections) where
 
 -- all the items that there are
 all-items : left 0 ≡ longestStream
-unfolding left sizesFrom sizeAt itemSize sizeOf lengthsOf chainCount chainLength kindOf sectionAt sectionFrom slotAt slotFrom mostOf addressOf
+unfolding longestBy left sizesFrom sizeAt itemSize sizeOf lengthsOf chainCount chainLength kindOf sectionAt sectionFrom slotAt slotFrom mostOf addressOf
 all-items = refl
 
 -- ---- streams
@@ -197,7 +197,7 @@ pub accepted-short : (s : List ℕ) → streamVerdict s ≡ Accepted → length 
 unfolding streamVerdict
 accepted-short s e = rw all-items at (accepted-fits s 0 0 e)
 
--- the verdict, and so the answer, is settled by the first 2,525 bytes
+-- the verdict, and so the answer, is settled by five bytes more than the longest stream has
 pub prefix-verdict : (s : List ℕ) (n : ℕ) → longestStream + 5 ≤ n → streamVerdict (take n s) ≡ streamVerdict s
 unfolding streamVerdict
 prefix-verdict s n h = prefix-judged s 0 0 n (rw all-items h)

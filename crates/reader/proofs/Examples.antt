@@ -1,6 +1,6 @@
 -- Streams worked out: each refusal 13 to 16 with its place, and which of two wins. One table, computed. Assumes
 -- nothing.
-use Prim.Native.Nat.{ℕ, _<_}
+use Prim.Native.Nat.{ℕ, _-_, _<_}
 use mathlib.Core.Path.{_≡_, refl}
 use mathlib.Core.Bool.{Bool, true, false, _&&_}
 use mathlib.Core.List.{List, [], _∷_, _++_}
@@ -27,7 +27,7 @@ use Rattle.edge.specs.Words as edge-words
 use Rattle.edge.specs.Back.{covers, wishFrom}
 use Rattle.sum.specs.Operation.{opCode}
 use Rattle.sum.specs.Back.{codesOf}
-use Rattle.records.specs.Sections.{kindOf, mostOf}
+use Rattle.records.specs.Sections.{sections, labelSize, kindOf, mostOf}
 use Rattle.sheet.specs.Parsed.{joined, render}
 use Rattle.compiler.specs.Items.{addressOf, lengthsOf, sizeOf, itemSize}
 use Rattle.compiler.specs.Chains.{wordsRead}
@@ -134,23 +134,27 @@ examples = tt
 
 -- ---- what is read
 
--- the stream of no bytes is read as five zeros [C8]
-pub empty-stream : readBack [] ≡ bytes (replicate 5 0)
+-- the stream of no bytes is read as a zero for each section [C8]
+pub empty-stream : readBack [] ≡ bytes (replicate sections 0)
 unfolding streamVerdict itemsVerdict rests restsFrom sheetIn sectionsOf recordsOf render joined
 empty-stream = refl
 
--- the labels of the last slot of each section: T09, R01, E01, S47, Q15, each with five spaces [C7]
+-- a label of this letter, these digits and spaces
+pub labelled : (letter tens ones : ℕ) → List ℕ
+labelled letter tens ones = letter ∷ tens ∷ ones ∷ replicate (labelSize - 3) 0x20
+
+-- the labels of the last slot of each section: T09, R01, E01, S47, Q15 [C7]
 pub labels :
-    (labelFor TERMS 9 ≡ 84 ∷ 48 ∷ 57 ∷ replicate 5 0x20)
-    × (labelFor RANGES 1 ≡ 82 ∷ 48 ∷ 49 ∷ replicate 5 0x20)
-    × (labelFor EDGES 1 ≡ 69 ∷ 48 ∷ 49 ∷ replicate 5 0x20)
-    × (labelFor SUMS 47 ≡ 83 ∷ 52 ∷ 55 ∷ replicate 5 0x20)
-    × (labelFor STATES 15 ≡ 81 ∷ 49 ∷ 53 ∷ replicate 5 0x20)
-unfolding letterOf kindOf
+    (labelFor TERMS 9 ≡ labelled 84 48 57)
+    × (labelFor RANGES 1 ≡ labelled 82 48 49)
+    × (labelFor EDGES 1 ≡ labelled 69 48 49)
+    × (labelFor SUMS 47 ≡ labelled 83 52 55)
+    × (labelFor STATES 15 ≡ labelled 81 49 53)
+unfolding labelled letterOf kindOf
 labels = (refl, refl, refl, refl, refl)
 
 -- a state and a term, and the sheet that they are read as [C7, D2.5]
 pub two-records : readBack (last ++ term)
-    ≡ bytes (1 ∷ 1 ∷ 84 ∷ 48 ∷ 49 ∷ (replicate 5 0x20 ++ (5 ∷ 0 ∷ 0 ∷ 0 ∷ 15 ∷ 0 ∷ 0 ∷ 0 ∷ 0 ∷ 0 ∷ 0 ∷ 1 ∷ 15 ∷ 81 ∷ 49 ∷ 53 ∷ (replicate 5 0x20 ++ replicate 13 0))))
-unfolding term last ends lower upper streamVerdict itemsVerdict rests restsFrom stepSize itemVerdict firstVerdict chainsVerdict descriptionIn descriptionRead term-kind.back range-kind.back edge-kind.back sum-kind.back state-kind.back stateOf bitsFrom fieldBytes wordsRead commandVerdict loadsVerdict wordsIn loads itemSize sizeOf lengthsOf chainCount chainLength addressOf kindOf mostOf sectionAt sectionFrom slotAt slotFrom u32At readTerm partOf linesAfter wordPart nibbleMask trailingZeros tableOf down term-words.termWords term-words.chainWord term-words.nibbleTable same readRange linesWith chainBound fromLines gathered scattered ones range-words.sentWords range-words.chainWords range-words.lowerValue range-words.upperValue covers wishFrom overLines edge-words.pairTable codesOf opCode allWithin recordIn recordsOf sectionsOf sheetIn render joined letterOf
+    ≡ bytes (render (((1 ∷ (labelled 84 48 49 ++ fieldBytes (5 ∷ 15 ∷ []))) ∷ []) ∷ [] ∷ [] ∷ [] ∷ ((15 ∷ (labelled 81 49 53 ++ replicate 13 0)) ∷ []) ∷ replicate (sections - 5) []))
+unfolding labelled term last ends lower upper streamVerdict itemsVerdict rests restsFrom stepSize itemVerdict firstVerdict chainsVerdict descriptionIn descriptionRead term-kind.back range-kind.back edge-kind.back sum-kind.back state-kind.back stateOf bitsFrom fieldBytes wordsRead commandVerdict loadsVerdict wordsIn loads itemSize sizeOf lengthsOf chainCount chainLength addressOf kindOf mostOf sectionAt sectionFrom slotAt slotFrom u32At readTerm partOf linesAfter wordPart nibbleMask trailingZeros tableOf down term-words.termWords term-words.chainWord term-words.nibbleTable same readRange linesWith chainBound fromLines gathered scattered ones range-words.sentWords range-words.chainWords range-words.lowerValue range-words.upperValue covers wishFrom overLines edge-words.pairTable codesOf opCode allWithin recordIn recordsOf sectionsOf sheetIn render joined letterOf
 two-records = refl

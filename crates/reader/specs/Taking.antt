@@ -6,7 +6,8 @@ use lib.ListN.{length, getD, take, drop}
 use Rattle.buffer.specs.declared.Verdict.{Verdict}
 use Rattle.buffer.specs.declared.Verdict.the-variants.{Accepted}
 use Rattle.buffer.specs.Room.{write}
-use Rattle.records.specs.Sections.{sections, sectionSize}
+use Rattle.kinds.specs.Table.{sumKind}
+use Rattle.records.specs.Sections.{sections, labelSize, sectionSize}
 use Rattle.sheet.specs.Parsed.{render}
 use Rattle.reader.specs.Judging.{streamVerdict}
 use Rattle.reader.specs.Back.{labelFor, sheetIn}
@@ -16,11 +17,11 @@ pub record Taken (verdict : Verdict) (words : List ℕ) (r : Verdict) (into : Li
   pub answer : r ≡ verdict
   pub held : verdict ≡ Accepted → take (length words) into ≡ words
 
--- ---- the reader's room: as many bytes for each section, more than any has
+-- ---- the reader's room: as many bytes for each section
 
--- the bytes of the reader's room for each section, more than any section has [C9]
+-- the bytes of the reader's room for each section: those of the sums at their most; no section has more [C9]
 abbrev pub partSize : ℕ
-partSize = 1024
+partSize = 1 + sumKind .most * (1 + labelSize + sumKind .size)
 
 -- how many records of section k the room holds [C9]
 abbrev pub countIn : (k : ℕ) (room : List ℕ) → ℕ

@@ -16,8 +16,8 @@ use kinds::letter;
 use records::LABEL_SIZE;
 use records::slot_digits;
 
-// How many bytes each section has in the room.
-pub(crate) const PART: usize = 1024;
+// How many bytes each section has in the room: as many as the sums at their most, since no section has more.
+pub(crate) const PART: usize = 1 + kinds::SUM.most * (1 + LABEL_SIZE + kinds::SUM.size);
 
 pub(crate) const ROOM: usize = SECTIONS * PART;
 

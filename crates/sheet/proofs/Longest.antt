@@ -13,14 +13,9 @@ use Rattle.buffer.specs.declared.Verdict.the-variants.{Accepted}
 use Rattle.buffer.proofs.Faults.{andThen-same}
 use Rattle.records.specs.Sections.{sections, mostOf, recordSize, sectionSize}
 use Rattle.sheet.specs.Reading.{nextRecord, recordsVerdict, sectionVerdict, sectionsVerdict, verdict}
-use Rattle.sheet.specs.Parsed.{joined, render, Sections}
+use Rattle.sheet.specs.Parsed.{joined, render, Sections, longestFrom}
 use Rattle.sheet.proofs.Parsed.{ordered-count, joined-length, accepted-well-formed, accepted-rendered}
 use Rattle.sheet.proofs.Reading.{count-above, count-fits, counted}
-
--- the longest that n sections from section k on can be: each has its most
-unfoldable pub longestFrom : ℕ → ℕ → ℕ
-longestFrom zero k = 0
-longestFrom (suc n) k = sectionSize k (mostOf k) + longestFrom n (k + 1)
 
 sections-long : {k : ℕ} {p : List (List (List ℕ))} → Sections k p → length (render p) ≤ longestFrom (length p) k
 unfolding render longestFrom

@@ -4,7 +4,7 @@ use mathlib.Core.Bool.{true}
 use mathlib.Core.List.{List, []}
 use mathlib.Core.Logic.{_↔_}
 use mathlib.Core.Path.{_≡_, refl, sym, ap, _∙_}
-use lib.Dec.{lit<}
+use native.Mathlib.Omega.{arith}
 use lib.ListN.{length, getD, take, replicate}
 use Rattle.peek.specs.Bytes.{Bytes}
 use Rattle.buffer.specs.declared.Verdict.the-variants.{Accepted, Refused}
@@ -21,7 +21,7 @@ use Rattle.sheet.proofs.Examples.{full, full-length, full-accepted}
 use Rattle.sheet.proofs.Faults.{record-taken, record-description}
 use Rattle.sheet.proofs.Labels.{Unlike, among-some, among-none}
 use Rattle.sheet.proofs.Found.{Stands, find-found, find-none, find-at, cursor, cursor-find}
-use Rattle.sheet.proofs.Longest.{longestFrom, longest, enough-read}
+use Rattle.sheet.proofs.Longest.{longest, enough-read}
 use Rattle.sheet.proofs.Parsed.{render-accepted, parse-render, accepted-well-formed, accepted-rendered}
 use Rattle.sheet.proofs.Places.{place-within}
 use Rattle.sheet.proofs.Reading.{unchecked, section-unknown, section-refused}
@@ -51,21 +51,19 @@ parse-rendered = parse-render
 
 -- no sheet is longer than the longest, and one is as long [S8]
 pub at-most : (s : List ℕ) → verdict s ≡ Accepted → length s ≤ longestSheet
-unfolding longestFrom mostOf descriptionSize kindOf
 at-most s ok = longest s ok
 
 pub one-has : (verdict full ≡ Accepted) × (length full ≡ longestSheet)
 one-has = (full-accepted, full-length)
 
--- five bytes, all 0, are a sheet [S8]
-pub five-zeros : verdict (replicate 5 0) ≡ Accepted
+-- a zero for each section is a sheet [S8]
+pub all-zeros : verdict (replicate sections 0) ≡ Accepted
 unfolding verdict sectionsVerdict sectionVerdict countVerdict recordsVerdict mostOf descriptionSize kindOf
-five-zeros = refl
+all-zeros = refl
 
 -- so a program that reads one byte more of a file judges the whole file [A9]
 pub enough : (s : List ℕ) → verdict (take (longestSheet + 1) s) ≡ verdict s
-unfolding longestFrom mostOf descriptionSize kindOf
-enough s = enough-read (longestSheet + 1) s (lit< tt)
+enough s = enough-read (longestSheet + 1) s (omega arith)
 
 -- the place of a sheet's refusal is an offset, at most the sheet's length [F1, F11]
 pub refused-within : (s : List ℕ) (number place : ℕ) → verdict s ≡ Refused number place → place ≤ length s
@@ -129,7 +127,7 @@ label-byte k floor r f i l = within-at 0x20 0x7E (labelOf r) i (f .label-fits) l
 pub refused-empty : (s : List ℕ) (k number place : ℕ) → verdict s ≡ Refused number place → sectionOf s k ≡ []
 refused-empty s k number place e = section-refused s k number place e
 
-pub unknown-empty : (s : List ℕ) (k : ℕ) → 4 < k → sectionOf s k ≡ []
+pub unknown-empty : (s : List ℕ) (k : ℕ) → sections ≤ k → sectionOf s k ≡ []
 unknown-empty s k h = section-unknown s k h
 
 -- after one check, `section_unchecked` hands out the same parts as `section` [S12]

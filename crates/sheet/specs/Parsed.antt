@@ -56,9 +56,14 @@ pub record Arranged (s : List ℕ) : Type 0 where
   pub formed : WellFormed parts
   pub is : render parts ≡ s
 
--- the most bytes that an accepted sheet has: all sections with their most; theorem at-most [S8]
+-- the most bytes that n sections from section k on have: each its most records [S8]
+unfoldable pub longestFrom : (n k : ℕ) → ℕ
+longestFrom zero k = 0
+longestFrom (suc n) k = sectionSize k (mostOf k) + longestFrom n (k + 1)
+
+-- the most bytes that an accepted sheet has; theorem at-most, and the number in demands/proofs/Sizes [S8]
 abbrev pub longestSheet : ℕ
-longestSheet = 1571
+longestSheet = longestFrom sections 0
 
 -- the first n sections from section k on, as the counts there say [S12]
 unfoldable pub sectionsFrom : ℕ → ℕ → List ℕ → List (List (List ℕ))

@@ -1,6 +1,9 @@
 // The set-up sheet: sections of records, each after a one-byte count; judged, and taken apart into its sections.
 // Promises: `check` gives the first fault's number and place; `section` a part of the lent bytes; any bytes are taken.
 // Rests on: peek and compare (bytes), buffer (verdicts), records (the table of sections, the fields and faults of a record).
+ghost use mathlib.Core.Path.{_≡_};
+ghost use Rattle.sheet.specs.Parsed.{longestSheet};
+
 mod judge;
 mod met;
 mod parts;
@@ -10,8 +13,17 @@ pub use parts::judge_parts;
 pub use parts::section;
 pub use parts::section_span;
 
-// The most bytes that a sheet has (proofs/Longest, longest).
-pub const LONGEST: usize = 1571;
+// The most bytes that a sheet has: the counts, and of each record slot, label and description.
+pub const LONGEST: usize = kinds::SECTIONS
+    + kinds::ALL_RECORDS * (1 + records::LABEL_SIZE)
+    + kinds::ALL_BYTES;
+
+// The same as a call, whose contract holds the constant to its definition.
+pub fn longest_sheet() -> usize
+    ensures { λ r. ⌜ r ≡ longestSheet ⌝ }
+{
+    LONGEST
+}
 
 // What is found of a sheet: its refusal, and where the part of each section lies. All 0 where there is nothing to say.
 pub struct Judged {

@@ -1,5 +1,5 @@
-// The chain words of a sum. An operation's word is found by a match with all sixteen cases, of which the compiler makes a
-// static table: a constant array is built on the stack at each call, and a match with ten cases branches on the code.
+// The chain words of a sum. An operation's word is found by a match with all sixteen cases, of which the compiler makes
+// a static table: a constant array is built on the stack at each call, and a match with ten cases branches on the code.
 ghost use mathlib.Core.Path.{_≡_};
 ghost use Prim.Native.Nat.{_<_};
 ghost use Rattle.sum.specs.Operation.{pairOps, midOps, finalOps, opWord};

@@ -12,6 +12,8 @@ use Rattle.buffer.specs.declared.Verdict.the-variants.{Accepted}
 use Rattle.buffer.proofs.Writing.{front-count, front-room, front-text}
 use Rattle.sheet.specs.Reading.{verdict}
 use Rattle.sheet.proofs.Laid.{judged-accepted}
+use Rattle.kinds.specs.Table.{mostOf, kindOf}
+use Rattle.notice.specs.Notice.{slotMost, mostText}
 use Rattle.notice.proofs.Lengths.{at-most}
 use Rattle.notice.proofs.Answers.{given-numbered, given-old, given-new, given-short, given-done}
 use borrow.Author.Needs.{needs}
@@ -51,6 +53,7 @@ slice-aggregate-put-sections : tie.Need-slice-aggregate-put-sections
 slice-aggregate-put-sections c = search needs
 
 put-sections-requires : tie.Need-put-sections-requires
+unfolding mostText slotMost mostOf kindOf
 put-sections-requires c κs =
     let a = c .before .before .before .before .before .before .before .before .before .before .args in
     (at-most (now (a .old)) (now (a .new)), ((old-accepted (c .before .before .before .before), c .before .before .before .before .before .before .judge-parts .ensures), (new-accepted (c .before), c .before .before .before .judge-parts2 .ensures)))

@@ -1,8 +1,9 @@
 -- `label_for` meets its contract. Assumes nothing.
-use Prim.Native.Nat.{ℕ}
+use Prim.Native.Nat.{ℕ, _-_}
 use mathlib.Core.List.{List, _∷_}
 use mathlib.Core.Path.{ap₂}
 use lib.ListN.{getD, replicate}
+use Rattle.records.specs.Sections.{labelSize}
 use borrow.Author.Needs.{needs}
 use Rattle.reader.proofs.keep.label_for.Statement.{statement}
 use Rattle.reader.proofs.keep.label_for.Tie as tie
@@ -30,7 +31,7 @@ array-write-label-3 c = search needs
 
 returns : tie.Need-returns
 returns c =
-    ap₂ (λ (letter : ℕ) (digits : List ℕ). letter ∷ getD digits 0 0 ∷ getD digits 1 0 ∷ replicate 5 0x20) (c .letter .ensures) (c .before .slot-digits .ensures)
+    ap₂ (λ (letter : ℕ) (digits : List ℕ). letter ∷ getD digits 0 0 ∷ getD digits 1 0 ∷ replicate (labelSize - 3) 0x20) (c .letter .ensures) (c .before .slot-digits .ensures)
 
 pub label-for-spec : {M : Type 1} → statement M
 label-for-spec =

@@ -9,6 +9,7 @@ use lib.ListN.{length, set, length-set}
 use Rattle.buffer.specs.Room.{write}
 use Rattle.buffer.proofs.Writing.{Pending, pending-start, pending-store, pending-step, pending-end}
 use Rattle.kinds.specs.Table.{descriptionRead}
+use Rattle.records.specs.Sections.{labelSize}
 use Rattle.reader.specs.Back.{labelFor}
 use Rattle.reader.proofs.Keeping.{description-short}
 use borrow.Author.Needs.{needs}
@@ -28,10 +29,10 @@ after-slot c =
 
 after-label : (c : tie.After-slice-known2) → let a = c .before .before .before .before .before .before .before .before .args in let k = a .section in let d = descriptionRead k (now (a .words)) in
     let out : List ℕ = set (now (a .out)) 0 (a .slot) in
-    Pending (now (a .out)) (write 0 (a .slot ∷ (labelFor k (a .slot) ++ d)) (now (a .out))) 9 d (putMid 1 (length out - 1) out (c .before .before .put-bytes .last .0))
+    Pending (now (a .out)) (write 0 (a .slot ∷ (labelFor k (a .slot) ++ d)) (now (a .out))) (1 + labelSize) d (putMid 1 (length out - 1) out (c .before .before .put-bytes .last .0))
 after-label c =
     let a = c .before .before .before .before .before .before .before .before .args in
-    pending-step _ _ 1 9 _ (c .before .before .before .before .before .label-for .result) _ _ _ _ (ap (λ (l : List ℕ). l ++ descriptionRead (a .section) (now (a .words))) (sym (c .before .before .before .before .before .label-for .ensures))) (ap (λ (l : List ℕ). 1 + length l) (sym (c .before .before .before .before .before .label-for .ensures))) (after-slot (c .before .before .before .before .before .before)) (c .before .before .put-bytes .ensures)
+    pending-step _ _ 1 (1 + labelSize) _ (c .before .before .before .before .before .label-for .result) _ _ _ _ (ap (λ (l : List ℕ). l ++ descriptionRead (a .section) (now (a .words))) (sym (c .before .before .before .before .before .label-for .ensures))) (ap (λ (l : List ℕ). 1 + length l) (sym (c .before .before .before .before .before .label-for .ensures))) (after-slot (c .before .before .before .before .before .before)) (c .before .before .put-bytes .ensures)
 
 label-for-requires : tie.Need-label-for-requires
 label-for-requires c κs = search needs
@@ -51,11 +52,11 @@ part-put-back-start c = omega (arith, after-label c .room)
 done : (c : tie.After-size-of) → let a = c .before .before .before .before .before .before .before .before .before .before .before .before .before .args in let k = a .section in let d = descriptionRead k (now (a .words)) in
     let first : List ℕ = set (now (a .out)) 0 (a .slot) in
     let out : List ℕ = putMid 1 (length first - 1) first (c .before .before .before .before .before .before .before .put-bytes .last .0) in
-    Pending (now (a .out)) (write 0 (a .slot ∷ (labelFor k (a .slot) ++ d)) (now (a .out))) (9 + length d) [] (putMid 9 (length out - 9) out (c .before .before .before .put-back .last .0))
+    Pending (now (a .out)) (write 0 (a .slot ∷ (labelFor k (a .slot) ++ d)) (now (a .out))) (1 + labelSize + length d) [] (putMid (1 + labelSize) (length out - (1 + labelSize)) out (c .before .before .before .put-back .last .0))
 done c =
     let a = c .before .before .before .before .before .before .before .before .before .before .before .before .before .args in
     let d = descriptionRead (a .section) (now (a .words)) in
-    pending-step _ _ 9 _ _ d [] _ _ _ (sym (append-nil d)) refl (after-label (c .before .before .before .before .before)) (c .before .before .before .put-back .ensures)
+    pending-step _ _ (1 + labelSize) _ _ d [] _ _ _ (sym (append-nil d)) refl (after-label (c .before .before .before .before .before)) (c .before .before .before .put-back .ensures)
 
 same-length : tie.Need-same-length
 same-length c = done c .size

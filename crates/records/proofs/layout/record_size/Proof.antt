@@ -6,6 +6,7 @@ use native.Mathlib.Omega.{arith}
 use Rattle.kinds.specs.declared.Row.{Row}
 use Rattle.kinds.specs.Table.{descriptionSize}
 use Rattle.kinds.proofs.Rows.{description-byte}
+use Rattle.records.specs.Sections.{labelSize}
 use Rattle.records.proofs.layout.record_size.Statement.{statement}
 use Rattle.records.proofs.layout.record_size.Tie as tie
 
@@ -21,7 +22,7 @@ add-result-2 c =
     omega (arith, description-byte (c .before .before .args .section), size)
 
 returns : tie.Need-returns
-returns c = ap (λ (r : Row). 1 + 8 + r .size) (c .before .row-of .ensures)
+returns c = ap (λ (r : Row). 1 + labelSize + r .size) (c .before .row-of .ensures)
 
 pub record-size-spec : {M : Type 1} → statement M
 record-size-spec = tie.close (tie.spec row-of-requires add-result add-result-2 returns)
