@@ -23,7 +23,7 @@ faultIf test number later = cond test number later
 abbrev pub recordSize : ℕ → ℕ
 recordSize k = 1 + labelSize + descriptionSize k
 
--- a section's bytes, its count and so many records; all five with their most make 1,571 [S1, S8]
+-- a section's bytes, its count and so many records [S1, S8]
 abbrev pub sectionSize : ℕ → ℕ → ℕ
 sectionSize k count = 1 + count * recordSize k
 
@@ -35,7 +35,7 @@ slotOf r = getD r 0 0
 abbrev pub slotDigits : ℕ → List ℕ
 slotDigits slot = (48 + slot / 10) ∷ (48 + slot % 10) ∷ []
 
--- a record's label, the eight bytes behind the slot [S2]
+-- a record's label, the bytes behind the slot [S2]
 abbrev pub labelOf : List ℕ → List ℕ
 labelOf r = take labelSize (drop 1 r)
 
