@@ -1,7 +1,7 @@
 pub mod Lines
 pub mod Slots
 pub mod Lengths
-pub mod Walk
+pub mod Walking
 pub mod Across
 pub mod Answers
 pub mod Members

@@ -1,4 +1,5 @@
 pub mod Text
 pub mod Findings
 pub mod Notice
+pub mod Walk
 pub mod Shared

@@ -1,13 +1,19 @@
 // The alteration notice: what changed between two set-up sheets, old and new, line by line.
-// Promises: over any bytes and any room, the rendered lines and their length, or a refusal that changes nothing.
+// Promises: the lines one by one, from a cursor on; over any bytes and any room, the rendered lines and their length, or a refusal that changes nothing.
 // Rests on: kinds (names, what is found of two descriptions), sheet (verdict, sections), records, compare (parts that differ), buffer (lent room).
+mod meet;
 mod put;
+mod record;
 mod text;
+mod walk;
 
 ghost use mathlib.Core.Path.{_≡_};
 ghost use lib.ListN.{length};
 ghost use Rattle.notice.specs.Notice.{NoticeGiven, NoticeNumbered, longestNotice};
 use lut::Telling;
+pub use record::record_of;
+pub use walk::next_line;
+pub use walk::start;
 
 // The most bytes that a notice has, the room in which it is built before its length is known: for each record a line NAME
 // and a line ALTR of 13 bytes, and what the second shows, 9 bytes of a term or a range, 18 of an edge, 5 of a sum.
@@ -37,6 +43,25 @@ pub struct Line {
     pub section: usize,
     pub slot: u8,
     pub finding: Finding,
+}
+
+// Where a walk over the lines stands.
+pub struct Cursor {
+    // The slot that is looked at next, and whether its line NAME has been given.
+    pub section: usize,
+    pub slot: usize,
+    pub named: bool,
+    // How many bytes of the section's records lie behind, in the old sheet and in the new one.
+    pub old: usize,
+    pub new: usize,
+}
+
+// What the call `next_line` answers.
+pub enum Step {
+    // No line is left.
+    End,
+    // A line, and the cursor behind it.
+    Found(Line, Cursor),
 }
 
 // What the call `notice` answers.

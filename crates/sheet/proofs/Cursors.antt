@@ -21,7 +21,7 @@ pub cursor-start : (k : ℕ) (part : List ℕ) → Ordered k 0 (recordsIn k part
 cursor-start k part o = record { within = omega arith; ordered = o; found = λ t h. refl }
 
 -- the record at the cursor is within the part
-front-fits : (k slot : ℕ) (rest : List ℕ) → length (front slot (recordsIn k rest)) ≤ length rest
+pub front-fits : (k slot : ℕ) (rest : List ℕ) → length (front slot (recordsIn k rest)) ≤ length rest
 front-fits k slot rest = go (decLt (length (take (recordSize k) rest)) (recordSize k))
   where
     go : Dec (length (take (recordSize k) rest) < recordSize k) → length (front slot (recordsIn k rest)) ≤ length rest

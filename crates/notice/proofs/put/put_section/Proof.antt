@@ -1,75 +1,76 @@
--- `notice::put::put_section` meets its contract: a walk over the slots, with a cursor into each sheet's records.
--- Assumes nothing.
-use Prim.Native.Nat.{_-_}
-use mathlib.Core.Path.{_≡_}
+-- `put_section` meets its contract: line after line. Assumes nothing.
+use mathlib.Core.Path.{_≡_, sym, subst}
 use native.Mathlib.Omega.{arith}
 use denote.Ref.{now}
-use Rattle.records.specs.Sections.{mostOf}
-use Rattle.kinds.proofs.Rows.{most-byte}
-use Rattle.sheet.proofs.Cursors.{cursor-fits}
-use Rattle.notice.proofs.Walk.{Walking, walking-start, walking-room, walking-turn, walking-end}
+use lib.ListN.{length}
+use Rattle.buffer.proofs.Left.{Left, left-start, left-room, left-turn, left-end}
+use Rattle.notice.specs.declared.Cursor.{Cursor}
+use Rattle.notice.specs.Text.{render, renderAll}
+use Rattle.notice.specs.Walk.{cursorAt, partLines}
+use Rattle.notice.proofs.Walking.{text-end, text-found, fewer}
 use borrow.Author.Needs.{needs}
 use Rattle.notice.proofs.put.put_section.Statement.{statement}
 use Rattle.notice.proofs.put.put_section.Tie as tie
 
 abbrev Inv-loop : tie.InvT-loop
-Inv-loop out₀ from section old new most at₀ i₀ j₀ slot₀ out at i j slot = (most ≡ mostOf section) × Walking section from old new out₀ out at i j slot
+Inv-loop out₀ from section old new at₀ here₀ out at here =
+    Left from (renderAll (partLines old new (cursorAt section))) out₀ out at (renderAll (partLines old new here))
 
 abbrev μ-loop : tie.MeasureT-loop
-μ-loop out₀ from section old new most at₀ i₀ j₀ slot₀ out at i j slot = most - slot
+μ-loop out₀ from section old new at₀ here₀ out at here = length (partLines old new here)
 
-most-requires : tie.Need-most-requires Inv-loop μ-loop
-most-requires c κs = search needs
+at-section-requires : tie.Need-at-section-requires Inv-loop μ-loop
+at-section-requires c κs = search needs
 
 loop-holds : tie.Need-loop-holds Inv-loop μ-loop
-loop-holds c = let s = c .before .before .before .before in
-    (c .most .ensures, walking-start (s .args .section) (s .args .from) (now (s .args .old)) (now (s .args .new)) (now (s .args .out)) (s .pre .1 .0) (s .pre .1 .1) (s .pre .0))
+loop-holds c =
+    let s = c .before .before .before .before in
+    let a = s .args in
+    let text = renderAll (partLines (now (a .old)) (now (a .new)) (cursorAt (a .section))) in
+    subst (λ (d : Cursor). Left (a .from) text (now (a .out)) (now (a .out)) (a .from) (renderAll (partLines (now (a .old)) (now (a .new)) d))) (sym (c .at-section .ensures))
+    (left-start (a .from) text (now (a .out)) (s .pre))
 
-cast-record-with : tie.Need-cast-record-with Inv-loop μ-loop
-cast-record-with c = omega (arith, most-byte (c .before .before .before .before .before .before .args .section))
+step-in-requires : tie.Need-step-in-requires Inv-loop μ-loop
+step-in-requires c κs = search needs
 
-record-with-requires : tie.Need-record-with-requires Inv-loop μ-loop
-record-with-requires c κs = search needs
+enum-told : tie.Need-enum-told Inv-loop μ-loop
+enum-told c = search needs
 
-cast-record-with-2 : tie.Need-cast-record-with-2 Inv-loop μ-loop
-cast-record-with-2 c = omega (arith, most-byte (c .before .before .before .before .before .before .before .args .section))
+same-length : tie.Need-same-length Inv-loop μ-loop
+same-length c = c .before .before .before .loop .inv .pending .size
 
-record-with-requires-2 : tie.Need-record-with-requires-2 Inv-loop μ-loop
-record-with-requires-2 c κs = search needs
+returns : tie.Need-returns Inv-loop μ-loop
+returns c =
+    let a = c .before .before .before .before .before .before .before .before .args in
+    let there = c .before .before .before .loop in
+    let step = c .before .before .step-in in
+    left-end (a .from) _ _ _ _ _ (there .inv) (text-end (partLines (now (a .old)) (now (a .new))) (there .here) (step .result) (step .ensures .1) (c .enum-told .given .1))
 
-cast-put-slot : tie.Need-cast-put-slot Inv-loop μ-loop
-cast-put-slot c = omega (arith, most-byte (c .before .before .before .before .before .before .before .before .before .args .section))
+enum-known-line : tie.Need-enum-known-line Inv-loop μ-loop
+enum-known-line c = search needs
 
-put-slot-requires : tie.Need-put-slot-requires Inv-loop μ-loop
-put-slot-requires c κs =
-    let a = c .before .before .before .before .before .before .before .before .before .args in
-    walking-room _ _ (now (a .old)) (now (a .new)) _ _ _ _ _ _ _ _ (c .before .before .before .before .loop .inv .1) (omega arith) (c .before .before .record-with .ensures) (c .before .record-with2 .ensures)
-
-add-i : tie.Need-add-i Inv-loop μ-loop
-add-i c = let w = c .before .before .before .before .before .before .before .loop .inv .1 in
-    omega (arith, cursor-fits _ _ _ (now (c .before .before .before .before .before .before .before .before .before .before .before .before .args .old)) _ (w .olds) (c .before .before .before .before .before .record-with .ensures))
-
-add-j : tie.Need-add-j Inv-loop μ-loop
-add-j c = let w = c .before .before .before .before .before .before .before .loop .inv .1 in
-    omega (arith, cursor-fits _ _ _ (now (c .before .before .before .before .before .before .before .before .before .before .before .before .args .new)) _ (w .news) (c .before .before .before .before .record-with2 .ensures))
-
-add-slot : tie.Need-add-slot Inv-loop μ-loop
-add-slot c = omega (arith, most-byte (c .before .before .before .before .before .before .before .before .before .before .before .before .args .section))
+put-line-requires : tie.Need-put-line-requires Inv-loop μ-loop
+put-line-requires c κs =
+    let a = c .before .before .before .before .before .before .before .before .before .before .args in
+    let there = c .before .before .before .before .before .loop in
+    let step = c .before .before .before .before .step-in in
+    let e = text-found (partLines (now (a .old)) (now (a .new))) (there .here) (step .result) (step .ensures .1) _ _ (c .before .before .line .given .1) in
+    let found = c .before .before .line .given .0 in
+    left-room (a .from) _ _ _ _ _ (there .inv) (render (found .0)) (renderAll (partLines (now (a .old)) (now (a .new)) (found .1 .0))) e
 
 loop-less : tie.Need-loop-less Inv-loop μ-loop
-loop-less c = omega arith
+loop-less c =
+    let a = c .before .before .before .before .before .before .before .before .before .before .before .before .before .args in
+    let step = c .before .before .before .before .before .before .before .step-in in
+    fewer (partLines (now (a .old)) (now (a .new))) (c .before .before .before .before .before .before .before .before .loop .here) (step .result) (step .ensures .1) _ _ (c .before .before .before .before .before .line .given .1)
 
 loop-again : tie.Need-loop-again Inv-loop μ-loop
 loop-again c =
-    let a = c .before .before .before .before .before .before .before .before .before .before .before .before .args in
-    let i = c .before .before .before .before .before .before .before .loop .inv in
-    (i .0, walking-turn _ _ (now (a .old)) (now (a .new)) _ _ _ _ _ _ _ _ (i .1) (omega arith) (c .before .before .before .before .before .record-with .ensures) (c .before .before .before .before .record-with2 .ensures) _ _ (c .before .before .put-slot .ensures))
-
-same-length : tie.Need-same-length Inv-loop μ-loop
-same-length c = c .before .loop .inv .1 .steps .left .pending .size
-
-returns : tie.Need-returns Inv-loop μ-loop
-returns c = walking-end _ _ _ _ _ _ _ _ _ _ (c .before .loop .inv .1) (omega arith)
+    let a = c .before .before .before .before .before .before .before .before .before .before .before .before .before .args in
+    let there = c .before .before .before .before .before .before .before .before .loop in
+    let step = c .before .before .before .before .before .before .before .step-in in
+    let e = text-found (partLines (now (a .old)) (now (a .new))) (there .here) (step .result) (step .ensures .1) _ _ (c .before .before .before .before .before .line .given .1) in
+    left-turn (a .from) _ _ _ _ _ (there .inv) _ _ _ _ e (c .before .before .put-line .ensures)
 
 pub put-section-spec : {M : Type 1} → statement M
 put-section-spec =
@@ -77,18 +78,13 @@ put-section-spec =
     (tie.spec
     Inv-loop
     μ-loop
-    most-requires
+    at-section-requires
     loop-holds
-    cast-record-with
-    record-with-requires
-    cast-record-with-2
-    record-with-requires-2
-    cast-put-slot
-    put-slot-requires
-    add-i
-    add-j
-    add-slot
-    loop-less
-    loop-again
+    step-in-requires
+    enum-told
     same-length
-    returns)
+    returns
+    enum-known-line
+    put-line-requires
+    loop-less
+    loop-again)

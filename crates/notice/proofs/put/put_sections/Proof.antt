@@ -3,41 +3,22 @@ use Prim.Native.Nat.{_-_}
 use native.Mathlib.Omega.{arith}
 use denote.Ref.{now}
 use Rattle.records.specs.Sections.{sections}
-use Rattle.sheet.proofs.Cut.{Cut, part-records, part-ordered}
 use Rattle.notice.proofs.Across.{Going, going-start, going-room, going-turn, going-end}
 use borrow.Author.Needs.{needs}
 use Rattle.notice.proofs.put.put_sections.Statement.{statement}
 use Rattle.notice.proofs.put.put_sections.Tie as tie
 
 abbrev Inv-loop : tie.InvT-loop
-Inv-loop out₀ old new olds news at₀ section₀ out at section = Going old new out₀ out at section
+Inv-loop out₀ old new olds news at₀ section₀ out at section = Going old new olds news out₀ out at section
 
 abbrev μ-loop : tie.MeasureT-loop
 μ-loop out₀ old new olds news at₀ section₀ out at section = sections - section
 
--- the parts are cut out of the sheets
-module _ (c : tie.After-prefix Inv-loop μ-loop) where
-  abbrev old-start : tie.Start Inv-loop μ-loop
-  old-start = c .before .before .before .before .before .before .before .before .before
-
-  old-cut : Cut (now (old-start .args .old)) (old-start .args .t4) (c .before .before .before .before .before .loop .section) (now (c .prefix .result))
-  old-cut =
-      let accepted = old-start .pre .1 .0 in
-      record { accepted = accepted .0; laid = accepted .1; is = rw (c .before .before .suffix .ensures) at (c .prefix .ensures) }
-
-module _ (c : tie.After-prefix2 Inv-loop μ-loop) where
-  abbrev new-start : tie.Start Inv-loop μ-loop
-  new-start = c .before .before .before .before .before .before .before .before .before .before .before .before .before
-
-  new-cut : Cut (now (new-start .args .new)) (new-start .args .t5) (c .before .before .before .before .before .before .before .before .before .loop .section) (now (c .prefix2 .result))
-  new-cut =
-      let accepted = new-start .pre .1 .1 in
-      record { accepted = accepted .0; laid = accepted .1; is = rw (c .before .before .suffix2 .ensures) at (c .prefix2 .ensures) }
-
 loop-holds : tie.Need-loop-holds Inv-loop μ-loop
 loop-holds c =
     let s = c .before .before .before in
-    going-start (now (s .args .old)) (now (s .args .new)) (now (s .args .out)) (s .pre .0)
+    let a = s .args in
+    going-start (now (a .old)) (now (a .new)) (a .t4) (a .t5) (now (a .out)) (s .pre)
 
 mul-suffix : tie.Need-mul-suffix Inv-loop μ-loop
 mul-suffix c = search needs
@@ -78,11 +59,8 @@ prefix-requires-2 c κs = search needs
 put-section-requires : tie.Need-put-section-requires Inv-loop μ-loop
 put-section-requires c κs =
     let a = c .before .before .before .before .before .before .before .before .before .before .before .before .before .before .args in
-    let g = c .before .before .before .before .before .before .before .before .before .before .loop .inv in
-    let h = c .before .before .before .before .before .before .before .before .before .loop-test .taken in
-    let old = old-cut (c .before .before .before .before .before) in
-    let new = new-cut (c .before) in
-    (going-room (now (a .old)) (now (a .new)) _ _ _ _ _ _ g h (part-records _ _ _ _ h old) (part-records _ _ _ _ h new), (part-ordered _ _ _ _ h old, part-ordered _ _ _ _ h new))
+    rw (c .before .before .before .before .before .prefix .ensures, c .before .before .before .before .before .before .before .suffix .ensures, c .before .prefix2 .ensures, c .before .before .before .suffix2 .ensures)
+    (going-room (now (a .old)) (now (a .new)) (a .t4) (a .t5) _ _ _ _ (c .before .before .before .before .before .before .before .before .before .before .loop .inv))
 
 add-section : tie.Need-add-section Inv-loop μ-loop
 add-section c = search needs
@@ -93,14 +71,16 @@ loop-less c = search needs
 loop-again : tie.Need-loop-again Inv-loop μ-loop
 loop-again c =
     let a = c .before .before .before .before .before .before .before .before .before .before .before .before .before .before .before .before .before .args in
-    let h = c .before .before .before .before .before .before .before .before .before .before .before .before .loop-test .taken in
-    going-turn (now (a .old)) (now (a .new)) _ _ _ _ _ _ (c .before .before .before .before .before .before .before .before .before .before .before .before .before .loop .inv) h (part-records _ _ _ _ h (old-cut (c .before .before .before .before .before .before .before .before))) (part-records _ _ _ _ h (new-cut (c .before .before .before .before))) _ _ (c .before .before .put-section .ensures)
+    going-turn (now (a .old)) (now (a .new)) (a .t4) (a .t5) _ _ _ _ (c .before .before .before .before .before .before .before .before .before .before .before .before .before .loop .inv) (omega arith) _ _
+    (rw (c .before .before .before .before .before .before .before .before .prefix .ensures, c .before .before .before .before .before .before .before .before .before .before .suffix .ensures, c .before .before .before .before .prefix2 .ensures, c .before .before .before .before .before .before .suffix2 .ensures) at (c .before .before .put-section .ensures))
 
 same-length : tie.Need-same-length Inv-loop μ-loop
 same-length c = c .before .loop .inv .left .pending .size
 
 returns : tie.Need-returns Inv-loop μ-loop
-returns c = going-end _ _ _ _ _ _ (c .before .loop .inv) (omega arith)
+returns c =
+    let a = c .before .before .before .before .before .args in
+    going-end (now (a .old)) (now (a .new)) (a .t4) (a .t5) _ _ _ _ (c .before .loop .inv) (omega arith)
 
 pub put-sections-spec : {M : Type 1} → statement M
 put-sections-spec =
