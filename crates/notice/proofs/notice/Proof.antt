@@ -13,7 +13,7 @@ use Rattle.buffer.proofs.Writing.{front-count, front-room, front-text}
 use Rattle.sheet.specs.Reading.{verdict}
 use Rattle.sheet.proofs.Laid.{judged-accepted}
 use Rattle.kinds.specs.Table.{mostOf, kindOf}
-use Rattle.notice.specs.Notice.{noticeText, slotMost, mostText}
+use Rattle.notice.specs.Notice.{noticeText, longestNotice, slotMost, mostText}
 use Rattle.notice.proofs.Lengths.{at-most}
 use Rattle.notice.proofs.Walking.{text-of-all}
 use Rattle.notice.proofs.Answers.{given-numbered, given-old, given-new, given-short, given-done}
@@ -32,6 +32,7 @@ new-accepted c = judged-accepted _ _ (c .before .before .judge-parts2 .ensures) 
 wrote : (c : tie.After-put-sections)
     → Wrote 0 (noticeText (now (c .before .before .before .before .before .before .before .before .before .before .before .args .old)) (now (c .before .before .before .before .before .before .before .before .before .before .before .args .new)))
     (replicate longestNotice 0) (c .put-sections .last .0) (c .put-sections .result)
+unfolding mostText slotMost mostOf kindOf
 wrote c =
     let a = c .before .before .before .before .before .before .before .before .before .before .before .args in
     rw (text-of-all (now (a .old)) (now (a .new)) _ _ (old-accepted (c .before .before .before .before .before)) (c .before .before .before .before .before .before .before .judge-parts .ensures) (new-accepted (c .before .before)) (c .before .before .before .before .judge-parts2 .ensures)) at (c .put-sections .ensures)

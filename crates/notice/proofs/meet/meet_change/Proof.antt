@@ -29,7 +29,7 @@ returns-2 c slot =
     let same = c .before .before .same-bytes in
     let new = c .before .before .before .description2 in
     let old = c .before .before .before .before .description in
-    rw (rw (old .ensures, new .ensures) at (sym (same .ensures) ∙ c .before .if1 .left), rw (old .ensures, new .ensures) at (c .telling-of .ensures))
+    rw (rw (old .ensures, new .ensures) at (sym (same .ensures) ∙ c .before .if1 .left), rw (old .ensures, new .ensures) at (c .telling-of .ensures .0))
 
 pub meet-change-spec : {M : Type 1} → statement M
 meet-change-spec =
