@@ -6,28 +6,22 @@ const SELECT: u8 = 0x9e;
 
 const COMMAND_SIZE: usize = 5;
 
-// Longer than any line.
-const LINE: usize = 128;
-
-// Writes the lines of the first `end` bytes, which are whole commands.
-pub fn show_commands(stream: &[u8], end: usize, fd: i32) -> bool {
-    let mut at: usize = 0;
-    while at < end {
-        if !show_command(peek::suffix(stream, at), at, fd) {
-            return false;
-        }
-        at = faults::ahead(at, COMMAND_SIZE, end);
+// The lines of the first `end` bytes, which are whole commands.
+pub fn put_commands(out: &mut [u8], at: usize, stream: &[u8], end: usize) -> usize {
+    let mut behind = at;
+    let mut here: usize = 0;
+    while here < end {
+        behind = put_command(out, behind, peek::suffix(stream, here), here);
+        here = faults::ahead(here, COMMAND_SIZE, end);
     }
-    true
+    behind
 }
 
-fn show_command(command: &[u8], at: usize, fd: i32) -> bool {
-    let mut line = [0u8; LINE];
-    let a = put_padded(&mut line, 0, at);
-    let b = put_bytes(&mut line, a, command);
-    let c = put_meaning(&mut line, b, command);
-    let d = buffer::put_at(&mut line, c, b"\n");
-    io::write_all(fd, peek::prefix(&line, d))
+fn put_command(out: &mut [u8], at: usize, command: &[u8], offset: usize) -> usize {
+    let a = put_padded(out, at, offset);
+    let b = put_bytes(out, a, command);
+    let c = put_meaning(out, b, command);
+    buffer::put_at(out, c, b"\n")
 }
 
 fn put_bytes(out: &mut [u8], at: usize, command: &[u8]) -> usize {

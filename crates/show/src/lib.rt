@@ -1,9 +1,9 @@
-// Sheets and streams as text, one record or command to a line; a refused one up to its fault.
-// Promises: every call is safe and ends, and answers whether all was written.
-// Rests on: faults (the walk over a sheet), text (words), records (a record's fields), peek, buffer and io.
+// Sheets and streams as text in lent room, one record or command to a line.
+// Promises: every call is safe and ends; what does not fit is left out.
+// Rests on: faults (the walk over a sheet), text (words), records (a record's fields), peek and buffer.
 mod commands;
 mod sheet;
 mod state;
 
-pub use commands::show_commands;
-pub use sheet::show_sheet;
+pub use commands::put_commands;
+pub use sheet::put_sheet;

@@ -1,38 +1,33 @@
 // A sheet as text: the offset, then the count of a section, or a record's slot, label and description.
 use crate::state::put_state;
 use faults::Cursor;
+use peek::field;
 use records::description;
 use records::label;
 use records::record_size;
 use records::slot;
-use text::Form;
+use text::Section;
 use text::put_bits;
 use text::put_number;
 use text::put_padded;
 use text::put_trimmed;
 
-// Longer than any line.
-const LINE: usize = 512;
-
-// Writes the lines of the first `end` bytes, which are whole counts and records.
-pub fn show_sheet(sheet: &[u8], end: usize, fd: i32) -> bool {
+// The lines of the first `end` bytes, which are whole counts and records.
+pub fn put_sheet(out: &mut [u8], at: usize, sheet: &[u8], end: usize) -> usize {
+    let mut behind = at;
     let mut here = faults::start();
     while here.at < end {
-        if !show_line(sheet, here, fd) {
-            return false;
-        }
+        behind = put_place(out, behind, sheet, here);
         here = faults::next(sheet, here, end);
     }
-    true
+    behind
 }
 
-fn show_line(sheet: &[u8], here: Cursor, fd: i32) -> bool {
-    let mut line = [0u8; LINE];
-    let a = put_padded(&mut line, 0, here.at);
-    let b = buffer::put_at(&mut line, a, b"  ");
-    let c = put_line(&mut line, b, sheet, here);
-    let d = buffer::put_at(&mut line, c, b"\n");
-    io::write_all(fd, peek::prefix(&line, d))
+fn put_place(out: &mut [u8], at: usize, sheet: &[u8], here: Cursor) -> usize {
+    let a = put_padded(out, at, here.at);
+    let b = buffer::put_at(out, a, b"  ");
+    let c = put_line(out, b, sheet, here);
+    buffer::put_at(out, c, b"\n")
 }
 
 fn put_line(out: &mut [u8], at: usize, sheet: &[u8], here: Cursor) -> usize {
@@ -57,34 +52,35 @@ fn put_record(out: &mut [u8], at: usize, section: usize, record: &[u8]) -> usize
     let a = put_number(out, at, b"slot ", slot(record) as usize);
     let b = buffer::put_at(out, a, b" ");
     let c = text::put_quoted(out, b, label(record), b"\"");
-    match text::form_of(section) {
-        Form::Numbers(count) => put_fields(out, c, section, count, description(record)),
-        Form::Operations => put_operations(out, c, description(record)),
-        Form::State => put_state(out, c, description(record)),
-        Form::Nothing => c,
+    put_description(out, c, section, description(record))
+}
+
+fn put_description(out: &mut [u8], at: usize, section: usize, description: &[u8]) -> usize {
+    match text::section_at(section) {
+        Section::Terms => put_term(out, at, description),
+        Section::Ranges => put_range(out, at, description),
+        Section::Edges => put_edge(out, at, description),
+        Section::Sums => put_operations(out, at, description),
+        Section::States => put_state(out, at, description),
+        Section::Nothing => at,
     }
 }
 
-// Two numbers or three.
-fn put_fields(
-    out: &mut [u8],
-    at: usize,
-    section: usize,
-    count: usize,
-    description: &[u8],
-) -> usize {
-    let a = put_field(out, at, section, 0, peek::u32_at(description, 0));
-    let b = put_field(out, a, section, 1, peek::u32_at(description, 4));
-    if count < 3 {
-        return b;
-    }
-    put_field(out, b, section, 2, peek::u32_at(description, 8))
+fn put_term(out: &mut [u8], at: usize, description: &[u8]) -> usize {
+    let a = put_bits(out, at, b" target ", field(description, 0), 8);
+    put_bits(out, a, b" mask ", field(description, 1), 8)
 }
 
-fn put_field(out: &mut [u8], at: usize, section: usize, i: usize, n: u32) -> usize {
-    let a = buffer::put_at(out, at, b" ");
-    let b = put_trimmed(out, a, &text::field_name(section, i));
-    put_bits(out, b, b" ", n, 8)
+fn put_range(out: &mut [u8], at: usize, description: &[u8]) -> usize {
+    let a = put_bits(out, at, b" lower ", field(description, 0), 8);
+    let b = put_bits(out, a, b" upper ", field(description, 1), 8);
+    put_bits(out, b, b" mask ", field(description, 2), 8)
+}
+
+fn put_edge(out: &mut [u8], at: usize, description: &[u8]) -> usize {
+    let a = put_bits(out, at, b" rise ", field(description, 0), 8);
+    let b = put_bits(out, a, b" fall ", field(description, 1), 8);
+    put_bits(out, b, b" neither ", field(description, 2), 8)
 }
 
 fn put_operations(out: &mut [u8], at: usize, operations: &[u8]) -> usize {

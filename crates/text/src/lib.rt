@@ -6,11 +6,9 @@ mod put;
 
 pub use names::ELSE_STATE;
 pub use names::FLAGS;
-pub use names::Form;
-pub use names::field_name;
 pub use names::flag_name;
-pub use names::form_of;
 pub use names::operation_name;
+pub use names::section_at;
 pub use names::section_name;
 pub use names::source_name;
 pub use names::stage_name;
@@ -23,3 +21,15 @@ pub use put::put_padded;
 pub use put::put_quoted;
 pub use put::put_trimmed;
 pub use put::trimmed;
+
+// The sections, for what is said of each: a match on them has no default, so that a new section has its words or is
+// refused by the compiler.
+pub enum Section {
+    Terms,
+    Ranges,
+    Edges,
+    Sums,
+    States,
+    // No sheet has the section.
+    Nothing,
+}

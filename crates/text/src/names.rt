@@ -1,75 +1,37 @@
 // What each thing is called: one match for each question, every answer of one length, with spaces at its end.
 
+ghost use mathlib.Core.Path.{_≡_};
+ghost use lib.Dec.{ltb};
+ghost use Rattle.records.specs.Sections.{sections};
+ghost use Rattle.text.specs.Sections.{isNamed};
+use crate::Section;
 use kinds::EDGES;
 use kinds::RANGES;
 use kinds::STATES;
 use kinds::SUMS;
 use kinds::TERMS;
 
-pub fn section_name(section: usize) -> [u8; 8] {
-    match section {
-        TERMS => *b"terms   ",
-        RANGES => *b"ranges  ",
-        EDGES => *b"edges   ",
-        SUMS => *b"sums    ",
-        STATES => *b"states  ",
-        _ => *b"sections",
+pub fn section_at(number: usize) -> Section
+    ensures { λ r. ⌜ isNamed r ≡ ltb number sections ⌝ }
+{
+    match number {
+        TERMS => Section::Terms,
+        RANGES => Section::Ranges,
+        EDGES => Section::Edges,
+        SUMS => Section::Sums,
+        STATES => Section::States,
+        _ => Section::Nothing,
     }
 }
 
-// What a description is made of.
-pub enum Form {
-    // So many numbers of four bytes.
-    Numbers(usize),
-    // A sum's operations.
-    Operations,
-    // A state's number, else state and flags.
-    State,
-    // Nothing: no sheet has the section.
-    Nothing,
-}
-
-pub fn form_of(section: usize) -> Form {
-    match section {
-        TERMS => Form::Numbers(2),
-        RANGES => Form::Numbers(3),
-        EDGES => Form::Numbers(3),
-        SUMS => Form::Operations,
-        STATES => Form::State,
-        _ => Form::Nothing,
-    }
-}
-
-// Number i of a description that is made of numbers.
-pub fn field_name(section: usize, i: usize) -> [u8; 8] {
-    match section {
-        TERMS => term_field(i),
-        RANGES => range_field(i),
-        EDGES => edge_field(i),
-        _ => *b"        ",
-    }
-}
-
-fn term_field(i: usize) -> [u8; 8] {
-    match i {
-        0 => *b"target  ",
-        _ => *b"mask    ",
-    }
-}
-
-fn range_field(i: usize) -> [u8; 8] {
-    match i {
-        0 => *b"lower   ",
-        1 => *b"upper   ",
-        _ => *b"mask    ",
-    }
-}
-
-fn edge_field(i: usize) -> [u8; 8] {
-    match i {
-        0 => *b"rise    ",
-        1 => *b"fall    ",
-        _ => *b"neither ",
+pub fn section_name(number: usize) -> [u8; 8] {
+    match section_at(number) {
+        Section::Terms => *b"terms   ",
+        Section::Ranges => *b"ranges  ",
+        Section::Edges => *b"edges   ",
+        Section::Sums => *b"sums    ",
+        Section::States => *b"states  ",
+        Section::Nothing => *b"sections",
     }
 }
 

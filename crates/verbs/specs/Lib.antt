@@ -1,0 +1,4 @@
+pub mod Files
+pub mod Samples
+pub mod Result
+pub mod Run
