@@ -2,8 +2,8 @@
 use Prim.Native.Nat.{ℕ, _≤_}
 use mathlib.Core.Path.{_≡_}
 use mathlib.Core.Bool.{cond}
-use mathlib.Core.List.{List, [], _++_}
-use lib.ListN.{length}
+use mathlib.Core.List.{List, [], _∷_, _++_}
+use lib.ListN.{length, getD}
 use Rattle.buffer.specs.Room.{Put}
 use Rattle.buffer.specs.declared.Verdict.the-variants.{Accepted}
 use Rattle.sheet.specs.Reading.{verdict}
@@ -24,6 +24,14 @@ use Rattle.verbs.specs.declared.Ended.{Ended}
 use Rattle.verbs.specs.Files.{File}
 use Rattle.verbs.specs.Samples.{wordsIn, samplesVerdict, takenBytes}
 use Rattle.verbs.specs.Result.{unless, noNumber, noVerb, Gives, Shows}
+
+-- the verbs by their numbers in a call from C, from 0 on [T1]
+abbrev pub verbs : List Verb
+verbs = Nothing ∷ Check ∷ Section ∷ Compile ∷ Read ∷ Notice ∷ Nothing ∷ Show ∷ ShowCommands ∷ Bench ∷ []
+
+-- the verb that has this number [T1]
+abbrev pub verbOf : (number : ℕ) → Verb
+verbOf number = getD verbs number Nothing
 
 -- what is said of an accepted sheet [T2]
 abbrev pub acceptedLine : (name : List ℕ) → List ℕ

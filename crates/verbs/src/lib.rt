@@ -2,7 +2,8 @@
 // Promises: output and status are those of the library's definitions; a refusal's line has the number, the place and the file that were answered; a refusal changes nothing in the room for standard output.
 // Rests on: sheet, compiler, reader, notice, bench (the work), decimal (a section's number), show (text), refusal, faults, stream_faults (the line of a refusal).
 ghost use Rattle.verbs.specs.Files.{file};
-ghost use Rattle.verbs.specs.Run.{Ran};
+ghost use mathlib.Core.Path.{_≡_};
+ghost use Rattle.verbs.specs.Run.{verbOf, Ran};
 
 mod line;
 mod samples;
@@ -53,6 +54,25 @@ pub const DONE: u8 = 0;
 pub const REFUSED: u8 = 1;
 
 pub const TROUBLE: u8 = 2;
+
+// The verb that has this number in a call from C.
+pub fn verb_of(number: u8) -> Verb
+    ensures { λ r. ⌜ r ≡ verbOf number ⌝ }
+{
+    match number {
+        0 => Verb::Nothing,
+        1 => Verb::Check,
+        2 => Verb::Section,
+        3 => Verb::Compile,
+        4 => Verb::Read,
+        5 => Verb::Notice,
+        6 => Verb::Nothing,
+        7 => Verb::Show,
+        8 => Verb::ShowCommands,
+        9 => Verb::Bench,
+        _ => Verb::Nothing,
+    }
+}
 
 // Runs a verb on the names and bytes of its files. A verb that has one file ignores the second.
 pub fn run(

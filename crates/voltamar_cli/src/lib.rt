@@ -1,46 +1,27 @@
-// The command line for a main in C: program/main.c calls it, and returns what it answers as the exit status.
-// Promises: every call is safe and ends.
-// Rests on: cli (the verbs), os (the arguments), libc (the two descriptors).
-use libc::STDERR_FILENO;
-use libc::STDOUT_FILENO;
+// The one call of crates/verbs for a main in C: program/main.c reads the files, calls it, and writes what it gives.
+// Promises: what is returned and left equals what crates/verbs says of the verb with this number.
+// Rests on: verbs.
+ghost use Rattle.verbs.specs.Files.{file};
+ghost use Rattle.verbs.specs.Run.{verbOf, Ran};
 
-// Runs the command line that the process was started with. 0 done, 1 refused, 2 trouble; 3 is no status: the two sheets of a report
-// stand in `old` and `new`, so many bytes of each, and voltamar_report is due.
+// Runs the verb with this number, and returns the status: 0 done, 1 refused, 2 trouble. Through the last two pointers go
+// the bytes for standard output and for standard error that stand at the start of `out` and `err`.
 #[no_mangle]
-pub extern "C" fn voltamar_run(
-    old: &mut [u8],
-    new: &mut [u8],
-    old_length: &mut usize,
-    new_length: &mut usize,
-) -> u8 {
-    cli::run(
-        1,
-        os::arg_count(),
-        STDOUT_FILENO,
-        STDERR_FILENO,
-        old,
-        new,
-        old_length,
-        new_length,
-    )
-}
-
-// Writes the report on the two sheets. A digest of no bytes is not known.
-#[no_mangle]
-pub extern "C" fn voltamar_report(
-    old: &[u8],
-    new: &[u8],
-    old_digest: &[u8],
-    new_digest: &[u8],
-) -> u8 {
-    cli::write_report(
-        2,
-        os::arg_count(),
-        old,
-        new,
-        old_digest,
-        new_digest,
-        STDOUT_FILENO,
-        STDERR_FILENO,
-    )
+pub extern "C" fn voltamar_verb(
+    verb: u8,
+    named: &[u8],
+    first: &[u8],
+    other: &[u8],
+    second: &[u8],
+    out: &mut [u8],
+    err: &mut [u8],
+    written: &mut usize,
+    said: &mut usize,
+) -> u8
+    ensures { λ r. ⌜ Ran (verbOf verb) (file (now (named .entry)) (now (first .entry))) (file (now (other .entry)) (now (second .entry))) (now (out .entry)) (now (err .entry)) (record { status = r; out = now (written .exit); err = now (said .exit) }) (now (out .exit)) (now (err .exit)) ⌝ }
+{
+    let ended = verbs::run(verbs::verb_of(verb), named, first, other, second, out, err);
+    *written = ended.out;
+    *said = ended.err;
+    ended.status
 }
