@@ -7,4 +7,5 @@ mod put;
 mod text;
 
 pub use line::put_line;
+pub use put::put_decimal;
 pub use text::put_refusal;

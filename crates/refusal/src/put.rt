@@ -2,7 +2,7 @@
 ghost use Prim.Native.Nat.{_+_, _≤_};
 ghost use mathlib.Core.List.{_++_};
 ghost use lib.ListN.{length};
-ghost use Rattle.buffer.specs.Room.{Wrote};
+ghost use Rattle.buffer.specs.Room.{Put, Wrote};
 ghost use Rattle.refusal.specs.Line.{decimal};
 
 // The most digits of a number.
@@ -32,4 +32,13 @@ pub(crate) fn put_number(out: &mut [u8], at: usize, before: &[u8], n: usize) -> 
     let mut digits = [0u8; DIGITS];
     let count = io::decimal(n as u64, &mut digits);
     put_two(out, at, before, &digits[..count])
+}
+
+// A number in decimal from an index on. Answers the index behind, or `at` itself where it does not fit: then nothing is written.
+pub fn put_decimal(out: &mut [u8], at: usize, n: usize) -> usize
+    ensures { λ r. ⌜ Put at (decimal n) (now (out .entry)) (now (out .exit)) r ⌝ }
+{
+    let mut digits = [0u8; DIGITS];
+    let count = io::decimal(n as u64, &mut digits);
+    buffer::put_at(out, at, &digits[..count])
 }

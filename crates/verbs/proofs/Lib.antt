@@ -1,3 +1,4 @@
 pub mod Giving
 pub mod Benching
 pub mod Theorems
+pub mod Heading

@@ -1,4 +1,5 @@
 pub mod Files
 pub mod Samples
+pub mod Page
 pub mod Result
 pub mod Run

@@ -13,7 +13,7 @@ use Rattle.buffer.specs.declared.Verdict.the-variants.{Accepted, Refused}
 use Rattle.notice.specs.declared.Noticed.{Noticed}
 use Rattle.notice.specs.declared.Noticed.the-variants as Noticed
 use Rattle.verbs.specs.declared.Came.{Came}
-use Rattle.verbs.specs.declared.Came.the-variants.{Done, First, Second, Shown, NoNumber, NoVerb}
+use Rattle.verbs.specs.declared.Came.the-variants.{Done, First, Second, Shown, NoNumber, NoCall}
 
 -- bytes for standard output, or a refusal of the first or of the second file, or trouble with the arguments [T1, T3]
 pub data Result : Type 0 where
@@ -21,7 +21,7 @@ pub data Result : Type 0 where
   first : ℕ → ℕ → Result
   second : ℕ → ℕ → Result
   noNumber : Result
-  noVerb : Result
+  noCall : Result
 
 -- these bytes where both files are accepted; the first file speaks first [T3, O4]
 abbrev pub unless : (first second : Verdict) (text : List ℕ) → Result
@@ -35,7 +35,7 @@ cameOf (bytes bs) room = cond (leb (length bs) room) (Done (length bs)) (First 1
 cameOf (first number place) room = First number place
 cameOf (second number place) room = Second number place
 cameOf noNumber room = NoNumber
-cameOf noVerb room = NoVerb
+cameOf noCall room = NoCall
 
 -- the room afterwards: the bytes at its start where they fit, as it was after every refusal [T3, A1, A2, A3]
 abbrev pub leftBy : Result → (out : List ℕ) → List ℕ
@@ -43,7 +43,7 @@ leftBy (bytes bs) out = cond (leb (length bs) (length out)) (fill bs out) out
 leftBy (first number place) out = out
 leftBy (second number place) out = out
 leftBy noNumber out = out
-leftBy noVerb out = out
+leftBy noCall out = out
 
 -- a verb that has this to say came to c, and left the room so [T1, T3]
 pub record Gives (result : Result) (out : List ℕ) (c : Came) (out′ : List ℕ) : Type 0 where

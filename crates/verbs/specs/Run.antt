@@ -19,11 +19,11 @@ use Rattle.refusal.specs.Line.{refusalLine}
 use Rattle.verbs.specs.declared.Verb.{Verb}
 use Rattle.verbs.specs.declared.Verb.the-variants.{Check, Section, Compile, Read, Notice, Show, ShowCommands, Bench, Nothing}
 use Rattle.verbs.specs.declared.Came.{Came}
-use Rattle.verbs.specs.declared.Came.the-variants.{Done, First, Second, Shown, NoNumber, NoVerb}
+use Rattle.verbs.specs.declared.Came.the-variants.{Done, First, Second, Shown, NoNumber, NoCall}
 use Rattle.verbs.specs.declared.Ended.{Ended}
 use Rattle.verbs.specs.Files.{File}
 use Rattle.verbs.specs.Samples.{wordsIn, samplesVerdict, takenBytes}
-use Rattle.verbs.specs.Result.{unless, noNumber, noVerb, Gives, Shows}
+use Rattle.verbs.specs.Result.{unless, noNumber, noCall, Gives, Shows}
 
 -- the verbs by their numbers in a call from C, from 0 on [T1]
 abbrev pub verbs : List Verb
@@ -59,7 +59,7 @@ Does Bench one two out c out′ =
     Gives (unless (verdict (one .bytes)) (samplesVerdict (wordsIn (two .bytes))) (takenBytes (one .bytes) (wordsIn (two .bytes)))) out c out′
 Does Show one two out c out′ = Shows (verdict (one .bytes)) out c
 Does ShowCommands one two out c out′ = Shows (streamVerdict (one .bytes)) out c
-Does Nothing one two out c out′ = Gives noVerb out c out′
+Does Nothing one two out c out′ = Gives noCall out c out′
 
 -- the exit status: 0 done, 1 refused, 2 trouble [T8]
 abbrev pub statusOf : Came → ℕ
@@ -68,7 +68,7 @@ statusOf (First number place) = 1
 statusOf (Second number place) = 1
 statusOf (Shown n number place) = 1
 statusOf NoNumber = 2
-statusOf NoVerb = 2
+statusOf NoCall = 2
 
 -- how many bytes are for standard output [T1]
 abbrev pub countOf : Came → ℕ
@@ -77,7 +77,7 @@ countOf (First number place) = 0
 countOf (Second number place) = 0
 countOf (Shown n number place) = n
 countOf NoNumber = 0
-countOf NoVerb = 0
+countOf NoCall = 0
 
 -- the line of a refusal was put into the room for standard error, and its length answered; what it says of the place, in
 -- at most 512 bytes, no rule says [T3, A11]
@@ -93,7 +93,7 @@ Says (First number place) name₁ name₂ err r err′ = Told name₁ number pla
 Says (Second number place) name₁ name₂ err r err′ = Told name₂ number place err r err′
 Says (Shown n number place) name₁ name₂ err r err′ = Told name₁ number place err r err′
 Says NoNumber name₁ name₂ err r err′ = Put 0 (noNumberLine name₂) err err′ r
-Says NoVerb name₁ name₂ err r err′ = (r ≡ 0) × (err′ ≡ err)
+Says NoCall name₁ name₂ err r err′ = (r ≡ 0) × (err′ ≡ err)
 
 -- THE CALL: what came of the verb decides the status, the bytes for standard output and the line for standard error
 -- [T1, T3, T8]

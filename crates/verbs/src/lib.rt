@@ -6,6 +6,7 @@ ghost use mathlib.Core.Path.{_≡_};
 ghost use Rattle.verbs.specs.Run.{verbOf, Ran};
 
 mod line;
+mod page;
 mod samples;
 mod shown;
 mod work;
@@ -38,7 +39,8 @@ pub enum Came {
     Shown(usize, u8, usize),
     // What should be a section's number is none.
     NoNumber,
-    NoVerb,
+    // No verb has the number that was given, or a name or digest is longer than a page has room for.
+    NoCall,
 }
 
 // How the call ended: the exit status, and how many bytes stand at the start of each room.
@@ -77,17 +79,28 @@ pub fn verb_of(number: u8) -> Verb
 // Runs a verb on the names and bytes of its files. A verb that has one file ignores the second.
 pub fn run(
     verb: Verb,
-    named: &[u8],
+    first_name: &[u8],
     first: &[u8],
-    other: &[u8],
+    first_digest: &[u8],
+    second_name: &[u8],
     second: &[u8],
+    second_digest: &[u8],
     out: &mut [u8],
     err: &mut [u8],
 ) -> Ended
-    ensures { λ r. ⌜ Ran verb (file (now (named .entry)) (now (first .entry))) (file (now (other .entry)) (now (second .entry))) (now (out .entry)) (now (err .entry)) r (now (out .exit)) (now (err .exit)) ⌝ }
+    ensures { λ r. ⌜ Ran verb (file (now («first_name» .entry)) (now (first .entry)) (now («first_digest» .entry))) (file (now («second_name» .entry)) (now (second .entry)) (now («second_digest» .entry))) (now (out .entry)) (now (err .entry)) r (now (out .exit)) (now (err .exit)) ⌝ }
 {
-    let came = work::work(verb, named, first, other, second, out);
-    let said = line::say(verb, came, named, first, other, second, err);
+    let came = work::work(
+        verb,
+        first_name,
+        first,
+        first_digest,
+        second_name,
+        second,
+        second_digest,
+        out,
+    );
+    let said = line::say(verb, came, first_name, first, second_name, second, err);
     Ended {
         status: line::status(came),
         out: line::count(came),

@@ -24,7 +24,7 @@ pub(crate) fn status(came: Came) -> u8
         Came::Second(_, _) => REFUSED,
         Came::Shown(_, _, _) => REFUSED,
         Came::NoNumber => TROUBLE,
-        Came::NoVerb => TROUBLE,
+        Came::NoCall => TROUBLE,
     }
 }
 
@@ -37,7 +37,7 @@ pub(crate) fn count(came: Came) -> usize
         Came::Second(_, _) => 0,
         Came::Shown(n, _, _) => n,
         Came::NoNumber => 0,
-        Came::NoVerb => 0,
+        Came::NoCall => 0,
     }
 }
 
@@ -115,20 +115,20 @@ fn say_no_number(err: &mut [u8], word: &[u8]) -> usize
 pub(crate) fn say(
     verb: Verb,
     came: Came,
-    named: &[u8],
+    first_name: &[u8],
     first: &[u8],
-    other: &[u8],
+    second_name: &[u8],
     second: &[u8],
     err: &mut [u8],
 ) -> usize
-    ensures { λ r. ⌜ Says came (now (named .entry)) (now (other .entry)) (now (err .entry)) r (now (err .exit)) ⌝ }
+    ensures { λ r. ⌜ Says came (now («first_name» .entry)) (now («second_name» .entry)) (now (err .entry)) r (now (err .exit)) ⌝ }
 {
     match came {
         Came::Done(_) => 0,
-        Came::First(number, place) => say_first(err, verb, named, first, number, place),
-        Came::Second(number, place) => say_second(err, other, second, number, place),
-        Came::Shown(_, number, place) => say_first(err, verb, named, first, number, place),
-        Came::NoNumber => say_no_number(err, other),
-        Came::NoVerb => 0,
+        Came::First(number, place) => say_first(err, verb, first_name, first, number, place),
+        Came::Second(number, place) => say_second(err, second_name, second, number, place),
+        Came::Shown(_, number, place) => say_first(err, verb, first_name, first, number, place),
+        Came::NoNumber => say_no_number(err, second_name),
+        Came::NoCall => 0,
     }
 }

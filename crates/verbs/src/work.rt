@@ -80,16 +80,18 @@ fn section(sheet: &[u8], number: &[u8], out: &mut [u8]) -> Came
 // What a verb comes to.
 pub(crate) fn work(
     verb: Verb,
-    named: &[u8],
+    first_name: &[u8],
     first: &[u8],
-    other: &[u8],
+    first_digest: &[u8],
+    second_name: &[u8],
     second: &[u8],
+    second_digest: &[u8],
     out: &mut [u8],
 ) -> Came
-    ensures { λ r. ⌜ Does verb (file (now (named .entry)) (now (first .entry))) (file (now (other .entry)) (now (second .entry))) (now (out .entry)) r (now (out .exit)) ⌝ }
+    ensures { λ r. ⌜ Does verb (file (now («first_name» .entry)) (now (first .entry)) (now («first_digest» .entry))) (file (now («second_name» .entry)) (now (second .entry)) (now («second_digest» .entry))) (now (out .entry)) r (now (out .exit)) ⌝ }
 {
     match verb {
-        Verb::Check => check(named, first, out),
+        Verb::Check => check(first_name, first, out),
         Verb::Section => section(first, second, out),
         Verb::Compile => of_outcome(compiler::compile(first, out)),
         Verb::Read => of_outcome(reader::read(first, out)),
@@ -97,6 +99,6 @@ pub(crate) fn work(
         Verb::Show => shown::sheet(first, out),
         Verb::ShowCommands => shown::commands(first, out),
         Verb::Bench => samples::bench(first, second, out),
-        Verb::Nothing => Came::NoVerb,
+        Verb::Nothing => Came::NoCall,
     }
 }

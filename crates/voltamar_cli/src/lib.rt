@@ -9,18 +9,30 @@ ghost use Rattle.verbs.specs.Run.{verbOf, Ran};
 #[no_mangle]
 pub extern "C" fn voltamar_verb(
     verb: u8,
-    named: &[u8],
+    first_name: &[u8],
     first: &[u8],
-    other: &[u8],
+    second_name: &[u8],
     second: &[u8],
+    first_digest: &[u8],
+    second_digest: &[u8],
     out: &mut [u8],
     err: &mut [u8],
     written: &mut usize,
     said: &mut usize,
 ) -> u8
-    ensures { λ r. ⌜ Ran (verbOf verb) (file (now (named .entry)) (now (first .entry))) (file (now (other .entry)) (now (second .entry))) (now (out .entry)) (now (err .entry)) (record { status = r; out = now (written .exit); err = now (said .exit) }) (now (out .exit)) (now (err .exit)) ⌝ }
+    ensures { λ r. ⌜ Ran (verbOf verb) (file (now («first_name» .entry)) (now (first .entry)) (now («first_digest» .entry))) (file (now («second_name» .entry)) (now (second .entry)) (now («second_digest» .entry))) (now (out .entry)) (now (err .entry)) (record { status = r; out = now (written .exit); err = now (said .exit) }) (now (out .exit)) (now (err .exit)) ⌝ }
 {
-    let ended = verbs::run(verbs::verb_of(verb), named, first, other, second, out, err);
+    let ended = verbs::run(
+        verbs::verb_of(verb),
+        first_name,
+        first,
+        first_digest,
+        second_name,
+        second,
+        second_digest,
+        out,
+        err,
+    );
     *written = ended.out;
     *said = ended.err;
     ended.status
