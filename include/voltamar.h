@@ -40,6 +40,13 @@ extern "C" {
 /* The most samples that one call of the bench takes. */
 #define VOLTAMAR_MOST_SAMPLES 4096
 
+/* Stack that is enough for a call, in bytes, for callers whose threads have little. This is measured on the longest sheets
+ * (tests/stack.c) and rounded up; it is not proved. */
+#define VOLTAMAR_STACK_BENCH 20480
+#define VOLTAMAR_STACK_READ 10240
+#define VOLTAMAR_STACK_NOTICE 4096
+#define VOLTAMAR_STACK_OTHER 2048 /* every other call */
+
 /* What a call returns. */
 enum voltamar_refusal {
     VOLTAMAR_DONE = 0,
@@ -87,8 +94,8 @@ uint8_t voltamar_compile(const uint8_t *sheet, size_t n, uint8_t *out, size_t ro
 
 /* Writes to out the sheet that the command stream sets up, with targets cut to their masks. A label is the letter of its
  * section, T, R, E, S or Q (terms, ranges, edges, sums, states), the slot in two decimal digits, and five spaces. Done: 0,
- * and *place is the sheet's length. Refused: 13 to 16, the first fault from the left, or 12. Done exactly if some
- * accepted sheet compiles to the stream; of no bytes the sheet is five zeros. */
+ * and *place is the sheet's length. Refused: 13 to 16, the first fault from the left, or 12. Given room for the sheet, done
+ * exactly if some accepted sheet compiles to the stream; of no bytes the sheet is five zeros. */
 uint8_t voltamar_read(const uint8_t *stream, size_t n, uint8_t *out, size_t room, size_t *place);
 
 /* Writes the alteration notice of two sheets to out. Done: 0, *which is 0, and *place is the notice's length. Refused: the old

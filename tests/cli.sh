@@ -1,7 +1,8 @@
 #!/bin/sh
 # shellcheck disable=SC2016
 # Runs ./voltamar on many command lines and compares exit status, standard output and standard error; then the script around the
-# program, over a small tree with a prover that only pretends. Run by .ci/run.
+# program, over a small tree with a prover that only pretends. With VOLTAMAR in the environment that program is tried, and no script.
+# Run by .ci/run.
 root=$(cd "$(dirname "$0")/.." && pwd) || exit 2
 examples=$root/examples
 room=$(mktemp -d) || exit 2
@@ -9,7 +10,8 @@ trap 'chmod -R u+w "$room"; rm -rf "$room"' EXIT
 chmod 755 "$room"
 cd "$room" || exit 2
 failures=0
-voltamar=$root/voltamar
+voltamar=${VOLTAMAR:-$root/voltamar}
+program=${VOLTAMAR:-$root/target/program/voltamar}
 
 wrong() {
     echo "cli.sh: $*" >&2
@@ -87,6 +89,7 @@ make_files() {
     head -c 9 /dev/zero | tr '\0' '\377' >noise
     { printf '\236\040\000\000\000'; for _ in 1 2 3 4; do printf '\237\000\000\000\000'; done; } >words
     long=$(head -c 5000 /dev/zero | tr '\0' x)
+    cut=$(head -c 60 /dev/zero | tr '\0' x)..
     make_samples
 }
 
@@ -120,10 +123,27 @@ samples() {
     says 'TERM 00 NAME\nTERM 01 ALTR 00000004\nTERM 02 NEW\nRANG 00 GONE\n' notice old.sheet new.sheet
     gives "$examples/lift-revised.notice" notice lift.sheet lift-revised.sheet
     gives "$examples/lift.taken" bench lift.sheet "$examples/lift.words"
-    # the table of crates/cli_cases runs on the same samples
+    gives "$examples/lift-revised.taken" bench lift-revised.sheet "$examples/lift.words"
+    # the table of tests/cases runs on the same samples
     for name in old.sheet new.sheet lift.sheet lift-revised.sheet old.commands lift.commands; do
-        expect "crates/cli_cases/data/$name is not the sample" cmp -s "$examples/$name" "$root/crates/cli_cases/data/$name"
+        expect "tests/cases/data/$name is not the sample" cmp -s "$examples/$name" "$root/tests/cases/data/$name"
     done
+}
+
+# The table of command lines: tests/cases/args has one word to a line and a line `--` after each case; stdout has what each case says,
+# on standard output and on standard error, and its status.
+cases() {
+    cp -r "$root/tests/cases/data" cases
+    set --
+    while IFS= read -r word; do
+        if [ "$word" = -- ]; then
+            (cd cases && "$voltamar" "$@" 2>&1 </dev/null; echo "-- $?")
+            set --
+        else
+            set -- "$@" "$word"
+        fi
+    done <"$root/tests/cases/args" >transcript
+    cmp "$root/tests/cases/stdout" transcript || wrong 'the table of tests/cases gives another transcript'
 }
 
 sections() {
@@ -222,7 +242,7 @@ labels() {
         says 'back: accepted\n' check back
         gives "$examples/$name.commands" compile back
     done
-    cp "$root/crates/cli_cases/data/longest.commands" .
+    cp "$root/tests/cases/data/longest.commands" .
     says '' read longest.commands -o back
     says 'back: accepted\n' check back
     gives longest.commands compile back
@@ -247,6 +267,34 @@ names() {
     complains 2 '-x: no such option\nusage: voltamar check SHEET..\n' check -x
     says '-x: accepted\n' check -- -x
     says './-x: accepted\n' check ./-x
+    # a name that is longer than any may be is cut
+    complains 2 "$cut: no such verb; the nearest is check, and \`voltamar help\` lists them all\n" "$long"
+}
+
+# Bytes of a name, in octal, and how they are shown: controls, C1 controls, what turns a text around, what ends a line, what is no UTF-8
+# shellcheck disable=SC2059
+shown_names() {
+    while read -r bytes shown; do
+        name=$(printf "n${bytes}m")
+        cp old.sheet "$name"
+        says "n${shown}m: accepted\n" check "$name"
+        says '' notice --report "$name" new.sheet -o page
+        expect "the page has the name with $bytes as it is shown" grep -qxF "Old sheet: $(printf "n${shown}m")" page
+        rm "$name"
+    done <<'EOF'
+\001\033[2J\177 ??[2J?
+\233 ?
+\302\233\302\200 ??
+\302\240 \302\240
+\342\200\256x\342\200\252 ?x?
+\342\201\246\342\201\251\342\201\252 ??\342\201\252
+\330\234\342\200\216\342\200\217\342\200\220 ???\342\200\220
+\342\200\250\342\200\251 ??
+\303\244\342\202\254\360\237\230\200 \303\244\342\202\254\360\237\230\200
+\300\257\340\200\257\355\240\200 ????????
+\364\220\200\200\365\377 ??????
+\303(\342\202(\360\237\230( ?(??(???(
+EOF
 }
 
 file_trouble() {
@@ -255,7 +303,7 @@ file_trouble() {
     complains 2 'missing: no such file\n' compile missing
     complains 2 'old.sheet/x: cannot be read\n' compile old.sheet/x
     complains 2 'argument 2: no such file\n' check ''
-    complains 2 'argument 2: name too long\n' check "$long"
+    complains 2 "$cut: name too long\n" check "$long"
     complains 2 'missing: no such file\n' notice torn missing
     complains 2 'folder: is a directory\n' notice folder missing
     if [ "$(id -u)" != 0 ]; then
@@ -278,9 +326,12 @@ misuse() {
     cmp -s got.err overview || wrong 'no word at all: not the overview on standard error'
     complains 2 'usage: voltamar check SHEET..\n' check
     complains 2 'usage: voltamar section [-o FILE] [--force] SHEET N\n' section old.sheet
-    complains 2 'usage: voltamar notice [-o FILE] [--report] OLD NEW\n' notice old.sheet
-    complains 2 'usage: voltamar notice [-o FILE] [--report] OLD NEW\n' notice --force old.sheet new.sheet
+    complains 2 'usage: voltamar notice [-o FILE] [--report [--no-digest]] OLD NEW\n' notice old.sheet
+    complains 2 'usage: voltamar notice [-o FILE] [--report [--no-digest]] OLD NEW\n' notice --force old.sheet new.sheet
+    complains 2 'usage: voltamar notice [-o FILE] [--report [--no-digest]] OLD NEW\n' notice --no-digest old.sheet new.sheet
+    complains 2 'usage: voltamar compile [-o FILE] [--force] SHEET\n' compile --no-digest old.sheet
     complains 2 'usage: voltamar compile [-o FILE] [--force] SHEET\n' compile --report old.sheet
+    complains 2 'usage: voltamar check SHEET..\n' check -o - old.sheet
     complains 2 'usage: voltamar compile [-o FILE] [--force] SHEET\n' compile old.sheet -o
     for words in 'bench open' 'bench open samples samples' 'bench --report open samples' 'bench --commands open samples' 'bench open samples -o'; do
         # shellcheck disable=SC2086
@@ -384,10 +435,131 @@ EOF
     expect 'the fifo is still one' test -p made/pipe
     status_is 2 '-o of a device' "$voltamar" compile lift.sheet -o /dev/null
     expect 'the device is still one' test -c /dev/null
-    cp lift.sheet made/own
-    says '' compile made/own -o made/own
-    expect '-o onto the input' cmp -s made/own lift.commands
-    [ "$(find made folder . -name '*.voltamar-*' | wc -l)" = 0 ] || wrong 'a file was left beside'
+    nothing_beside 'output files'
+}
+
+nothing_beside() { # WHAT
+    left=$(find . -name '*.voltamar-*' | wc -l)
+    [ "$left" = 0 ] || wrong "$1: $left files left beside"
+    find . -name '*.voltamar-*' -delete
+}
+
+# -o onto a file that is read: by its name, another name of it, a link, a hard link, and by way of standard input
+onto_inputs() {
+    rm -rf own && mkdir own
+    cp lift.sheet own/sheet
+    ln -s sheet own/link
+    ln own/sheet own/hard
+    for target in own/sheet ./own/../own/sheet own/link own/hard; do
+        for words in 'compile own/sheet' 'compile -' 'section own/sheet 0' 'notice new.sheet own/sheet' \
+            'notice --report own/link new.sheet' 'bench own/hard samples'; do
+            # shellcheck disable=SC2086
+            complains 2 "$target: is an input too, and would be replaced\n" $words -o $target <own/sheet
+            expect "$words -o $target leaves the file" cmp -s own/sheet lift.sheet
+        done
+    done
+    cp samples own/samples
+    complains 2 'own/samples: is an input too, and would be replaced\n' bench open own/samples -o own/samples
+    complains 2 'torn: is an input too, and would be replaced\n' compile torn -o torn
+    expect 'the link is still one' test -L own/link
+    echo other >own/other
+    says '' compile own/sheet -o own/other
+    expect 'a file that is no input is replaced' cmp -s own/other lift.commands
+    nothing_beside 'onto an input'
+}
+
+as_nobody() { if [ "$(id -u)" = 0 ]; then setpriv --reuid=65534 --regid=65534 --clear-groups "$@"; else "$@"; fi; }
+mode_is() { # MODE WHAT
+    [ "$(stat -c %a made/moded)" = "$1" ] || wrong "$2: mode $(stat -c %a made/moded), not $1"
+}
+
+# the mode of the file that is replaced stays, but for bits that would run it as another; a new file's mode is the usual one
+modes() {
+    for mode in 600 640 604 755 666; do
+        echo before >made/moded
+        chmod $mode made/moded
+        says '' compile lift.sheet -o made/moded
+        expect "-o over mode $mode" cmp -s made/moded lift.commands
+        mode_is $mode 'a file that is replaced'
+    done
+    chmod 6755 made/moded
+    says '' compile lift.sheet -o made/moded
+    mode_is 755 'a file that runs as its owner'
+    for mask in 022:644 077:600; do
+        rm -f made/moded
+        (umask ${mask%:*}; exec "$program" compile lift.sheet -o made/moded) || wrong "umask ${mask%:*}"
+        mode_is ${mask#*:} "umask ${mask%:*}"
+    done
+}
+
+# a file that may not be written is not replaced, even where its folder would allow it
+protected() {
+    command -v setpriv >/dev/null || return
+    as_nobody test -x "$program" || return
+    mkdir made/open
+    chmod 777 made/open
+    echo before >made/open/result
+    chmod 444 made/open/result
+    status_is 2 'a file that may not be written' as_nobody "$program" compile lift.sheet -o made/open/result
+    expect 'it says so' grep -qx 'made/open/result: not a regular file that can be written' got.err
+    [ "$(cat made/open/result)" = before ] || wrong 'a file that may not be written is replaced'
+    # a folder that can be written and not read
+    chmod 333 made/open
+    status_is 0 'a folder that cannot be read' as_nobody "$program" compile new.sheet -o made/open/new
+    expect 'the file there' cmp -s made/open/new new.commands
+    chmod 755 made/open
+}
+
+# names at the limits, and the name that is standard output
+long_names() {
+    part=$(head -c 255 /dev/zero | tr '\0' y)
+    for length in 1 229 230 238 254 255; do
+        last=$(printf %s "$part" | head -c $length)
+        says '' compile lift.sheet -o "made/$last"
+        expect "a last part of $length bytes" cmp -s "made/$last" lift.commands
+        (cd made && exec "$program" compile ../new.sheet -o "$last") || wrong "a last part of $length bytes alone"
+        expect "a last part of $length bytes again" cmp -s "made/$last" new.commands
+    done
+    complains 2 "made/y$part: name too long\n" compile lift.sheet -o "made/y$part"
+    complains 2 "$cut: name too long\n" compile lift.sheet -o "$long"
+    complains 2 'argument 4: no such file\n' compile lift.sheet -o ''
+    gives lift.commands compile lift.sheet -o -
+    gives lift.commands compile - -o - <lift.sheet
+    gives "$examples/old-new.notice" notice -o - old.sheet new.sheet
+    expect '-o - makes no file' test ! -e ./-
+    says '' compile lift.sheet -o ./-
+    expect '-o ./- does' cmp -s ./- lift.commands
+    nothing_beside 'long names'
+}
+
+# Signals at any moment: the file is the old one or the new one, nothing is left beside, and the run is done or ends by the signal
+kills() {
+    cp old.sheet made/killed
+    for delay in 02 04 06 08 10 12 14 16 18 20 22 24 26 28 30 35 40 45 50 60 80; do
+        for signal in TERM INT HUP; do
+            timeout --preserve-status -s $signal "0.00$delay" "$program" compile lift.sheet -o made/killed
+            echo "$signal $?"
+            cmp -s made/killed old.sheet || cmp -s made/killed lift.commands || wrong "a file in pieces after $signal"
+        done
+    done >ends 2>/dev/null
+    grep -vxE '(TERM|INT|HUP) 0|TERM 143|INT 130|HUP 129' ends && wrong 'a signal has another end'
+    nothing_beside 'signals'
+}
+
+# a signal that is ignored stays so
+ignored_signals() {
+    mkfifo waits
+    for signal in TERM INT HUP; do
+        sh -c 'trap "" "$1"; exec "$0" compile waits -o made/ignoring' "$program" $signal &
+        waiting=$!
+        exec 8>waits
+        kill -s $signal $waiting
+        cat new.sheet >&8
+        exec 8>&-
+        wait $waiting || wrong "$signal is ignored, and ends the run"
+        expect "the file of a run that ignores $signal" cmp -s made/ignoring new.commands
+        rm -f made/ignoring
+    done
 }
 
 two_at_once() {
@@ -397,7 +569,7 @@ two_at_once() {
     done
     wait
     cmp -s made/shared lift.commands || cmp -s made/shared new.commands || wrong 'two runs at once: a mixed file'
-    [ "$(find made -name '*.voltamar-*' | wc -l)" = 0 ] || wrong 'two runs at once: a file was left beside'
+    nothing_beside 'two runs at once'
 }
 
 # an output that takes nothing
@@ -447,7 +619,7 @@ reports() {
         expect "the report has no line '$line'" grep -qxF "$line" page
     done
     # program/main.c has room for the longest sheet and one byte
-    cp "$root/crates/cli_cases/data/longest.sheet" "$root/crates/cli_cases/data/longer.sheet" .
+    cp "$root/tests/cases/data/longest.sheet" "$root/tests/cases/data/longer.sheet" .
     "$voltamar" notice --report old.sheet longest.sheet >page
     expect 'the report on the longest sheet' grep -qxF "           1571 bytes, SHA-256 $(sha256sum <longest.sheet | head -c 64)" page
     complains 1 'longer.sheet: refused 11 at 1571: bytes left over; byte 00 hex after the last section\n' notice --report old.sheet longer.sheet
@@ -456,30 +628,91 @@ reports() {
     cat old.sheet >fifo &
     "$voltamar" notice --report fifo new.sheet >page
     expect 'the digest of what came through a fifo' grep -qF "$(sha256sum <old.sheet | head -c 64)" page
-    mkdir -p tools
-    "$voltamar" --version >/dev/null
-    PATH=$room/tools "$root/target/program/voltamar" notice --report old.sheet new.sheet >page || wrong 'a report without sha256sum'
-    expect 'a report without sha256sum says so' grep -q 'SHA-256 not known' page
+    cp page before
     status_is 1 'the report on a refused sheet' "$voltamar" notice --report old.sheet torn -o page
-    expect 'it leaves the page' grep -q 'SHA-256 not known' page
+    expect 'it leaves the page' cmp -s page before
+}
+
+# program/sha256.h beside sha256sum: 0 to 200 bytes, and some more
+digests() {
+    cat >digests.c <<'EOF'
+#include <stdio.h>
+#include "sha256.h"
+int main(void) {
+    static uint8_t bytes[100000], digits[SHA256_DIGITS];
+    size_t n = fread(bytes, 1, sizeof bytes, stdin);
+    for (size_t k = 0; k <= n; k += k < 200 ? 1 : k < 4000 ? 1271 : 31999) {
+        sha256(bytes, k, digits);
+        printf("%d %.64s\n", (int)k, (const char *)digits);
+    }
+}
+EOF
+    cc -std=c99 -Wall -Wextra -Wpedantic -Werror -O2 "-I$root/program" digests.c -o digests || wrong 'program/sha256.h does not compile'
+    head -c 100000 /dev/urandom >random
+    ./digests <random >own_digests
+    while read -r length _; do
+        echo "$length $(head -c "$length" random | sha256sum | head -c 64)"
+    done <own_digests >their_digests
+    [ "$(wc -l <own_digests)" -ge 205 ] || wrong 'digests: too few'
+    cmp -s own_digests their_digests || wrong "digests: $(diff own_digests their_digests | head -n 2)"
+}
+
+page_by() { # WHAT COMMAND..: the same page
+    how=$1
+    shift
+    status_is 0 "the page $how" "$@"
+    cmp -s got.out page || wrong "another page $how"
+}
+# nothing around the program takes the digests from the page; only --no-digest does
+pages() {
+    "$program" notice --report old.sheet new.sheet >page
+    mkdir -p tools
+    printf '#!/bin/sh\nexit 1\n' >tools/sha256sum
+    chmod +x tools/sha256sum
+    page_by 'without any tool' env PATH="$room" "$program" notice --report old.sheet new.sheet
+    page_by 'beside a sha256sum that fails' env PATH="$room/tools:$PATH" "$program" notice --report old.sheet new.sheet
+    page_by 'where SIGCHLD is ignored' env --ignore-signal=CHLD "$program" notice --report old.sheet new.sheet
+    for limit in 4 5 6; do
+        page_by "with descriptors below $limit" sh -c 'ulimit -S -n "$1"; exec "$0" notice --report old.sheet new.sheet' "$program" $limit
+    done
+    status_is 0 '--no-digest' "$voltamar" notice --report --no-digest old.sheet new.sheet
+    grep -Eq '[0-9a-fA-F]{64}' got.out && wrong '--no-digest: a digest'
+    mv got.out page
+    lines_are old-new.notice
+}
+
+# where SIGPIPE is ignored no verb undoes it; where it is not, it ends each
+pipes() {
+    for words in 'notice old.sheet new.sheet' 'notice --report old.sheet new.sheet' 'show lift.sheet'; do
+        # shellcheck disable=SC2086
+        { sleep 0.1; sh -c 'trap "" PIPE; exec "$0" "$@"' "$program" $words 2>got.err; echo $? >got; } | :
+        [ "$(cat got)" = 2 ] || wrong "SIGPIPE ignored, $words: status $(cat got)"
+        expect "SIGPIPE ignored, $words: told" grep -qx 'standard output: cannot be written' got.err
+        # shellcheck disable=SC2086
+        { sleep 0.1; "$program" $words; echo $? >got; } 2>/dev/null | :
+        [ "$(cat got)" = 141 ] || wrong "SIGPIPE, $words: status $(cat got)"
+    done
 }
 
 # ---- the script around the program, in a small tree whose prover pretends: it hands out the real archives
 
 make_tree() {
-    mkdir -p tree/crates/one/src kit/bin kit/lib
-    cp -r "$voltamar" "$root/program" "$root/include" "$root/LICENSE" tree
-    cp "$root/target/staticlib/libos_c.a" kit/lib
-    printf 'voltamar_cli:\nvoltamar_c:\n' >tree/crates.txt
+    mkdir -p tree/crates/one/src kit/bin
+    cp -r "$root/voltamar" "$root/program" "$root/include" "$root/LICENSE" tree
+    printf 'one:\nvoltamar_cli: one io\nvoltamar_c: one\n' >tree/crates.txt
     : >tree/crates/one/src/lib.rt
     cat >kit/bin/rt <<EOF
 #!/bin/sh
+echo "\$* \$RT_JOBS \$TMPDIR" >>"$room/calls"
+echo 'rt: one proved (1 s)'
+mkdir -p target/staticlib
+if [ "\$1" = staticlib ]; then
+    cp "$root/target/staticlib/lib\$2.a" target/staticlib
+    exit
+fi
 sleep "\${SLOW:-0}" &
 echo "\$\$ \$!" >>"$room/proofs"
 wait
-mkdir -p target/staticlib
-cp "$root/target/staticlib/lib\$2.a" target/staticlib
-echo "rt: \$2 proved (1 s)"
 EOF
     chmod +x kit/bin/rt
 }
@@ -506,7 +739,10 @@ first_build() {
     [ "$(proofs)" = 1 ] || wrong "two first runs at once: $(proofs) proofs"
     expect 'the second waits' grep -q 'waiting' err2
     expect 'the first names its log' grep -q 'the log is .*/target/build.log' err1
-    expect 'the first names what is proved, and how many are left' grep -q 'voltamar_cli is proved, 0 of 1 crates left' err1
+    [ "$(grep -c 'one is proved, 1 of 2 crates left' err1)" = 1 ] || wrong 'the first names what is proved, once, and how many are left'
+    expect 'what it rests on is proved first, several crates at a time' grep -q "^check one $(($(nproc) + 1)) " calls
+    expect 'then the archive is made' grep -q '^staticlib voltamar_cli ' calls
+    for memory in $(grep -o '/dev/shm/voltamar.*' calls); do [ ! -e "$memory" ] || wrong "$memory is left in memory"; done
     status_is 0 'a second call' in_tree --version
     [ "$(proofs)" = 1 ] || wrong 'a second call proves again'
     [ ! -s got.err ] || wrong 'a second call says something'
@@ -549,7 +785,6 @@ a_signal() {
 # a tree that cannot be written, for one who is not root
 unwritable() {
     command -v setpriv >/dev/null || return
-    as_nobody() { if [ "$(id -u)" = 0 ]; then setpriv --reuid=65534 --regid=65534 --clear-groups "$@"; else "$@"; fi; }
     as_nobody test -x tree/voltamar || return
     chmod -R a-w tree
     status_is 0 'a tree that cannot be written' as_nobody tree/voltamar --version
@@ -582,8 +817,11 @@ installs() {
 
 "$voltamar" --version >/dev/null || wrong 'not built'
 make_files
-for part in samples sections refusals benches labels names file_trouble misuse helps meanings inputs output_files two_at_once no_output terminal reports \
-    first_build later_builds a_signal unwritable installs; do
+parts='samples cases sections refusals benches labels names shown_names file_trouble misuse helps meanings inputs
+    output_files onto_inputs modes protected long_names kills ignored_signals two_at_once no_output terminal
+    reports digests pages pipes'
+[ -n "${VOLTAMAR-}" ] || parts="$parts first_build later_builds a_signal unwritable installs"
+for part in $parts; do
     $part
 done
 [ "$failures" -eq 0 ] && echo "cli.sh: ok"
