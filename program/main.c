@@ -167,13 +167,12 @@ static int load(struct input *in, uint8_t room[ROOM], char **argv, int at) {
     return DONE;
 }
 
-/* Whether a name leads to one of the files that were read. */
-static int is_input(const char *path) {
-    struct stat there;
-    if (stat(path, &there) < 0) return 0;
-    return (there.st_dev == first.device && there.st_ino == first.inode) ||
-           (there.st_dev == second.device && there.st_ino == second.inode);
+static int is_input(const struct stat *file) {
+    return (file->st_dev == first.device && file->st_ino == first.inode) ||
+           (file->st_dev == second.device && file->st_ino == second.inode);
 }
+
+static int onto_input(const char *name) { return complain(name, "is an input too, and would be replaced"); }
 
 /* A new file in the folder whose name the first bytes of `beside` are. */
 static int create(char *beside, size_t folder, mode_t mode) {
@@ -221,6 +220,7 @@ static int write_file(const char *path, const char *name, size_t n) {
     int is_there = stat(path, &old) == 0;
     if (strlen(path) >= NAME_ROOM) return trouble(name, ENAMETOOLONG, "");
     if (!is_there && errno != ENOENT) return trouble(name, errno, "cannot be written");
+    if (is_there && is_input(&old)) return onto_input(name);
     if (is_there && (!S_ISREG(old.st_mode) || faccessat(AT_FDCWD, path, W_OK, AT_EACCESS) < 0))
         return complain(name, "not a regular file that can be written");
     const char *slash = strrchr(path, '/');
@@ -282,10 +282,7 @@ static int is_sound(const struct verb *verb, const struct line *line) {
 
 static int misused(const struct verb *verb, const struct line *line, char **argv) {
     char name[NAME_ROOM];
-    if (line->unknown != 0) {
-        show_name(name, argv, line->unknown);
-        complain(name, "no such option");
-    }
+    if (line->unknown != 0) show_name(name, argv, line->unknown), complain(name, "no such option");
     write_all(STDERR_FILENO, verb->usage, strlen(verb->usage));
     return TROUBLE;
 }
@@ -328,8 +325,7 @@ static int wrong_verb(char **argv, int at) {
 }
 
 static int run_without_verb(char **argv) {
-    static const char version[] = "voltamar " VOLTAMAR_VERSION "\n";
-    if (strcmp(argv[1], "--version") == 0) return to_standard_output(version);
+    if (strcmp(argv[1], "--version") == 0) return to_standard_output("voltamar " VOLTAMAR_VERSION "\n");
     if (strcmp(argv[1], "-h") == 0 || strcmp(argv[1], "--help") == 0) return to_standard_output(OVERVIEW);
     return wrong_verb(argv, 1);
 }
@@ -371,6 +367,7 @@ static int call(enum number number, int has_digests, const char *target, const c
 
 static int run(const struct verb *verb, const struct line *line, char **argv) {
     char name[NAME_ROOM];
+    struct stat there;
     const char *target = line->output == 0 || strcmp(argv[line->output], "-") == 0 ? NULL : argv[line->output];
     if (verb->options & FORCE && !(line->options & FORCE) && target == NULL && isatty(STDOUT_FILENO))
         return complain("standard output",
@@ -386,7 +383,7 @@ static int run(const struct verb *verb, const struct line *line, char **argv) {
         if (load(&second, second_room, argv, line->second) != DONE) return TROUBLE;
     }
     if (target != NULL) show_name(name, argv, line->output);
-    if (target != NULL && is_input(target)) return complain(name, "is an input too, and would be replaced");
+    if (target != NULL && stat(target, &there) == 0 && is_input(&there)) return onto_input(name);
     int is_page = line->options & REPORT, is_stream = line->options & COMMANDS;
     enum number number = is_page ? PAGE : is_stream ? SHOW_COMMANDS : verb->number;
     return call(number, is_page && !(line->options & NO_DIGEST), target, name);

@@ -123,7 +123,12 @@ samples() {
     says 'TERM 00 NAME\nTERM 01 ALTR 00000004\nTERM 02 NEW\nRANG 00 GONE\n' notice old.sheet new.sheet
     gives "$examples/lift-revised.notice" notice lift.sheet lift-revised.sheet
     gives "$examples/lift.taken" bench lift.sheet "$examples/lift.words"
-    gives "$examples/lift-revised.taken" bench lift-revised.sheet "$examples/lift.words"
+    # sum 7 of the revised lift asks for a term that is not there: it stays in state 2, which takes the last six samples. With A for
+    # the pair of term 8 it goes to state 4, which takes none (examples/README.md)
+    gives "$examples/lift-revised.taken" bench lift-revised.sheet "$examples/lift-revised.words"
+    { head -c 375 lift-revised.sheet; printf '\010'; tail -c +377 lift-revised.sheet; } >repaired
+    head -c 92 "$examples/lift-revised.taken" >first23
+    gives first23 bench repaired "$examples/lift-revised.words"
     # the table of tests/cases runs on the same samples
     for name in old.sheet new.sheet lift.sheet lift-revised.sheet old.commands lift.commands; do
         expect "tests/cases/data/$name is not the sample" cmp -s "$examples/$name" "$root/tests/cases/data/$name"
@@ -681,6 +686,18 @@ pages() {
     lines_are old-new.notice
 }
 
+# each verb on the longest files, in as much stack as README says that the program needs
+little_stack() {
+    stack=$(sed -n 's/.* \([0-9]*\) KiB of stack.*/\1/p' "$root/README.md" | head -n 1)
+    cp "$root/tests/cases/data/most.words" .
+    for words in 'check longest.sheet' 'section longest.sheet 3' 'compile longest.sheet' 'read longest.commands' \
+        'notice old.sheet longest.sheet' 'notice --report lift.sheet longest.sheet -o page' 'show longest.sheet' \
+        'show --commands longest.commands' 'bench longest.sheet most.words' 'help notice'; do
+        # shellcheck disable=SC2086
+        status_is 0 "${stack:-256} KiB of stack, $words" sh -c 'ulimit -S -s "$0"; exec "$@"' "${stack:-256}" "$program" $words
+    done
+}
+
 # where SIGPIPE is ignored no verb undoes it; where it is not, it ends each
 pipes() {
     for words in 'notice old.sheet new.sheet' 'notice --report old.sheet new.sheet' 'show lift.sheet'; do
@@ -742,6 +759,7 @@ first_build() {
     [ "$(grep -c 'one is proved, 1 of 2 crates left' err1)" = 1 ] || wrong 'the first names what is proved, once, and how many are left'
     expect 'what it rests on is proved first, several crates at a time' grep -q "^check one $(($(nproc) + 1)) " calls
     expect 'then the archive is made' grep -q '^staticlib voltamar_cli ' calls
+    # shellcheck disable=SC2013
     for memory in $(grep -o '/dev/shm/voltamar.*' calls); do [ ! -e "$memory" ] || wrong "$memory is left in memory"; done
     status_is 0 'a second call' in_tree --version
     [ "$(proofs)" = 1 ] || wrong 'a second call proves again'
@@ -819,7 +837,7 @@ installs() {
 make_files
 parts='samples cases sections refusals benches labels names shown_names file_trouble misuse helps meanings inputs
     output_files onto_inputs modes protected long_names kills ignored_signals two_at_once no_output terminal
-    reports digests pages pipes'
+    reports digests pages pipes little_stack'
 [ -n "${VOLTAMAR-}" ] || parts="$parts first_build later_builds a_signal unwritable installs"
 for part in $parts; do
     $part
