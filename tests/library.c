@@ -322,44 +322,6 @@ static void notices(void) {
     expect(voltamar_notice(lift, lift_length, lift, lift_length, NULL, 0, &which, &place) == 0 && place == 0, "notice: nothing altered");
 }
 
-/* Every slot of every section, as one of two sheets that differ in each record, label and all: a byte more than the longest sheet. */
-static void fill(uint8_t sheet[VOLTAMAR_LONGEST_SHEET + 1], uint8_t is_new) {
-    static const struct { uint8_t most, size, differs; } sections[5] = {{10, 17, 9}, {2, 21, 13}, {2, 21, 9}, {48, 20, 19}, {16, 22, 9}};
-    size_t at = 0;
-    memset(sheet, 0, VOLTAMAR_LONGEST_SHEET + 1);
-    for (int s = 0; s < 5; s++) {
-        sheet[at++] = sections[s].most;
-        for (uint8_t slot = 0; slot < sections[s].most; slot++, at += sections[s].size) {
-            const uint8_t label[8] = {is_new ? 'N' : 'O', 'S', (uint8_t)('0' + s), (uint8_t)('0' + slot), ' ', ' ', ' ', ' '};
-            sheet[at] = slot;
-            memcpy(sheet + at + 1, label, 8);
-            if (s == 0) sheet[at + 13] = 1;                      /* a term's mask */
-            if (s == 1) sheet[at + 9] = 1, sheet[at + 17] = 15; /* a range's lower bound and mask */
-            sheet[at + sections[s].differs] = (uint8_t)(1 + is_new) & (s == 1 ? 3 : 1);
-        }
-    }
-    expect(at == VOLTAMAR_LONGEST_SHEET, "longest: the sheet");
-}
-
-/* The header's three lengths are reached, and room of one byte less is too short. */
-static void longest(void) {
-    static uint8_t old[VOLTAMAR_LONGEST_SHEET + 1], new[VOLTAMAR_LONGEST_SHEET + 1];
-    static uint8_t stream[VOLTAMAR_LONGEST_STREAM], back[VOLTAMAR_LONGEST_SHEET], text[VOLTAMAR_LONGEST_NOTICE];
-    const size_t sheet = VOLTAMAR_LONGEST_SHEET, commands = VOLTAMAR_LONGEST_STREAM, notice = VOLTAMAR_LONGEST_NOTICE;
-    size_t place = 99;
-    uint8_t which = 99;
-    fill(old, 0);
-    fill(new, 1);
-    expect(voltamar_check(old, sheet, &place) == 0 && voltamar_check(new, sheet, &place) == 0, "longest: accepted");
-    expect(voltamar_check(new, sheet + 1, &place) == VOLTAMAR_LEFT_OVER && place == sheet, "longest: 11 behind it");
-    expect(voltamar_compile(new, sheet, stream, commands - 1, &place) == 12 && place == commands, "longest: 12 of compile");
-    expect(voltamar_compile(new, sheet, stream, commands, &place) == 0 && place == commands, "longest: the stream");
-    expect(voltamar_read(stream, commands, back, sheet - 1, &place) == 12 && place == sheet, "longest: 12 of read");
-    expect(voltamar_read(stream, commands, back, sheet, &place) == 0 && place == sheet, "longest: the sheet read back");
-    expect(voltamar_notice(old, sheet, new, sheet, text, notice - 1, &which, &place) == 12 && place == notice, "longest: 12 of notice");
-    expect(voltamar_notice(old, sheet, new, sheet, text, notice, &which, &place) == 0 && place == notice, "longest: the notice");
-}
-
 static void model(void) {
     uint32_t term[4] = {0xFFFFFFFF, 0xFFFFFFFF, 0xFFFFFFFF, 0xFFFF0020}, range[32], edge[8] = {0}, sum[6] = {0x0008, 0xFFFFFFFF};
     uint8_t hit = 99;
@@ -575,7 +537,6 @@ int main(void) {
     labels_of_the_lift();
     longest();
     notices();
-    longest();
     model();
     tellings();
     bench();

@@ -49,7 +49,7 @@ part-put-numbers-start c = search needs
 part-put-numbers-end : tie.Need-part-put-numbers-end
 part-put-numbers-end c =
     let a = c .before .before .before .before .before .before .before .before .before .before .before .before .before .before .before .before .before .args in
-    let fits = run-fits _ (c .before .before .before .before .before .before .before .before .before .before .before .before .put-samples .last .0) (fieldsFrom (a .count) 0 (now (a .words))) _ _ (a .count) _ _ (c .before .before .before .before .before .before .before .before .fresh .ensures) (c .before .before .before .before .before .before .before .before .before .before .before .before .put-samples .ensures) (c .before .before .before .before .before .before .bench .ensures .0) (c .before .before .before .before .before .before .bench .ensures .1) _ _ (c .before .before .before .n .given .1) in
+    let fits = run-fits _ (c .before .before .before .before .before .before .before .before .before .before .before .before .put-samples .last .0) (fieldsFrom (a .count) 0 (now (a .words))) _ _ (a .count) _ _ (c .before .before .before .before .before .before .before .before .fresh .ensures) (c .before .before .before .before .before .before .before .before .before .before .before .before .put-samples .ensures) (c .before .before .before .before .before .before .bench .ensures .0) (c .before .before .before .before .before .before .bench .ensures .1 .0) _ _ (c .before .before .before .n .given .1) in
     omega (arith, fits, c .before .before .before .before .before .before .bench .kept)
 
 put-numbers-requires : tie.Need-put-numbers-requires
@@ -62,7 +62,7 @@ returns : tie.Need-returns
 returns c =
     let a = c .before .before .before .before .before .before .before .before .before .before .before .before .before .before .before .args in
     gives-refusal _ _ _ _ _ _
-    (run-refused _ (c .before .before .before .before .before .before .before .before .before .before .put-samples .last .0) (fieldsFrom (a .count) 0 (now (a .words))) _ _ (a .count) _ _ (c .before .before .before .before .before .before .fresh .ensures) (c .before .before .before .before .before .before .before .before .before .before .put-samples .ensures) (c .before .before .before .before .bench .ensures .0) (c .before .before .before .before .bench .ensures .1) _ _
+    (run-refused _ (c .before .before .before .before .before .before .before .before .before .before .put-samples .last .0) (fieldsFrom (a .count) 0 (now (a .words))) _ _ (a .count) _ _ (c .before .before .before .before .before .before .fresh .ensures) (c .before .before .before .before .before .before .before .before .before .before .put-samples .ensures) (c .before .before .before .before .bench .ensures .0) (c .before .before .before .before .bench .ensures .1 .0) _ _
     (omega (arith, words-count (a .count) 0 (now (a .words)), c .before .before .before .before .before .before .before .before .before .before .before .before .before .before .before .pre .0)) refl (c .before .number .given .1))
 
 same-length : tie.Need-same-length
@@ -72,8 +72,8 @@ returns-2 : tie.Need-returns-2
 returns-2 c =
     let a = c .before .before .before .before .before .before .before .before .before .before .before .before .before .before .before .before .before .before .before .before .before .before .args in
     gives-accepted _ _ _ _ _ _
-    (run-accepted _ (c .before .before .before .before .before .before .before .before .before .before .before .before .before .before .before .before .before .put-samples .last .0) (fieldsFrom (a .count) 0 (now (a .words))) _ _ (a .count) _ _ (c .before .before .before .before .before .before .before .before .before .before .before .before .before .fresh .ensures) (c .before .before .before .before .before .before .before .before .before .before .before .before .before .before .before .before .before .put-samples .ensures) (c .before .before .before .before .before .before .before .before .before .before .before .bench .ensures .0) (c .before .before .before .before .before .before .before .before .before .before .before .bench .ensures .1) _ _ (c .before .before .before .before .before .before .before .before .n .given .1))
-    (delivers (run-takes _ (c .before .before .before .before .before .before .before .before .before .before .before .before .before .before .before .before .before .put-samples .last .0) (fieldsFrom (a .count) 0 (now (a .words))) _ _ (a .count) _ _ (c .before .before .before .before .before .before .before .before .before .before .before .before .before .fresh .ensures) (c .before .before .before .before .before .before .before .before .before .before .before .before .before .before .before .before .before .put-samples .ensures) (c .before .before .before .before .before .before .before .before .before .before .before .bench .ensures .0) (c .before .before .before .before .before .before .before .before .before .before .before .bench .ensures .1) _ _ (c .before .before .before .before .before .before .before .before .n .given .1)) (c .before .before .before .put-numbers .ensures)) (c .of-outcome .ensures)
+    (run-accepted _ (c .before .before .before .before .before .before .before .before .before .before .before .before .before .before .before .before .before .put-samples .last .0) (fieldsFrom (a .count) 0 (now (a .words))) _ _ (a .count) _ _ (c .before .before .before .before .before .before .before .before .before .before .before .before .before .fresh .ensures) (c .before .before .before .before .before .before .before .before .before .before .before .before .before .before .before .before .before .put-samples .ensures) (c .before .before .before .before .before .before .before .before .before .before .before .bench .ensures .0) (c .before .before .before .before .before .before .before .before .before .before .before .bench .ensures .1 .0) _ _ (c .before .before .before .before .before .before .before .before .n .given .1))
+    (delivers (run-takes _ (c .before .before .before .before .before .before .before .before .before .before .before .before .before .before .before .before .before .put-samples .last .0) (fieldsFrom (a .count) 0 (now (a .words))) _ _ (a .count) _ _ (c .before .before .before .before .before .before .before .before .before .before .before .before .before .fresh .ensures) (c .before .before .before .before .before .before .before .before .before .before .before .before .before .before .before .before .before .put-samples .ensures) (c .before .before .before .before .before .before .before .before .before .before .before .bench .ensures .0) (c .before .before .before .before .before .before .before .before .before .before .before .bench .ensures .1 .0) _ _ (c .before .before .before .before .before .before .before .before .n .given .1)) (c .before .before .before .put-numbers .ensures)) (c .of-outcome .ensures)
 
 pub bench-words-spec : {M : Type 1} → statement M
 bench-words-spec =
