@@ -540,9 +540,9 @@ long_names() {
 # Signals at any moment: the file is the old one or the new one, nothing is left beside, and the run is done or ends by the signal
 kills() {
     cp old.sheet made/killed
-    for delay in 02 04 06 08 10 12 14 16 18 20 22 24 26 28 30 35 40 45 50 60 80; do
+    for delay in $(seq 200 100 3000) 3500 4000 5000 6000 8000; do # microseconds
         for signal in TERM INT HUP; do
-            timeout --preserve-status -s $signal "0.00$delay" "$program" compile lift.sheet -o made/killed
+            timeout --preserve-status -s $signal "$(printf '0.%06d' $delay)" "$program" compile lift.sheet -o made/killed
             echo "$signal $?"
             cmp -s made/killed old.sheet || cmp -s made/killed lift.commands || wrong "a file in pieces after $signal"
         done
