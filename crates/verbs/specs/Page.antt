@@ -6,6 +6,7 @@ use lib.Dec.{leb}
 use lib.ListN.{length}
 use Rattle.refusal.specs.Words.{ascii}
 use Rattle.refusal.specs.Line.{decimal}
+use Rattle.report.specs.Page.{bodyText}
 use Rattle.verbs.specs.Files.{File}
 
 -- a digest, or that none was asked for [T7]
@@ -25,6 +26,10 @@ fileText title f = ((title ++ f .name) ++ sizeText (length (f .bytes))) ++ (dige
 unfoldable pub headText : (one two : File) → List ℕ
 headText one two =
     ascii "NOTICE OF ALTERATIONS\n\n" ++ (fileText (ascii "Old sheet: ") one ++ fileText (ascii "New sheet: ") two)
+
+-- the page: its head, and the body made of the notice's lines [T7]
+abbrev pub pageText : (one two : File) → List ℕ
+pageText one two = headText one two ++ bodyText (one .bytes) (two .bytes)
 
 -- a page has room for names of 4,096 bytes and digests of 64 [T7]
 abbrev pub isShown : File → Bool

@@ -1,7 +1,7 @@
 -- What the one call does: each verb by the library's definitions.
 use Prim.Native.Nat.{ℕ, _≤_}
 use mathlib.Core.Path.{_≡_}
-use mathlib.Core.Bool.{cond}
+use mathlib.Core.Bool.{cond, _&&_}
 use mathlib.Core.List.{List, [], _∷_, _++_}
 use lib.ListN.{length, getD}
 use Rattle.buffer.specs.Room.{Put}
@@ -17,17 +17,18 @@ use Rattle.decimal.specs.Decimal.{isDecimal, sectionAsked}
 use Rattle.refusal.specs.Words.{ascii}
 use Rattle.refusal.specs.Line.{refusalLine}
 use Rattle.verbs.specs.declared.Verb.{Verb}
-use Rattle.verbs.specs.declared.Verb.the-variants.{Check, Section, Compile, Read, Notice, Show, ShowCommands, Bench, Nothing}
+use Rattle.verbs.specs.declared.Verb.the-variants.{Check, Section, Compile, Read, Notice, Page, Show, ShowCommands, Bench, Nothing}
 use Rattle.verbs.specs.declared.Came.{Came}
 use Rattle.verbs.specs.declared.Came.the-variants.{Done, First, Second, Shown, NoNumber, NoCall}
 use Rattle.verbs.specs.declared.Ended.{Ended}
 use Rattle.verbs.specs.Files.{File}
 use Rattle.verbs.specs.Samples.{wordsIn, samplesVerdict, takenBytes}
-use Rattle.verbs.specs.Result.{unless, noNumber, noCall, Gives, Shows}
+use Rattle.verbs.specs.Page.{pageText, isShown}
+use Rattle.verbs.specs.Result.{Result, unless, noNumber, noCall, Gives, Shows}
 
 -- the verbs by their numbers in a call from C, from 0 on [T1]
 abbrev pub verbs : List Verb
-verbs = Nothing ∷ Check ∷ Section ∷ Compile ∷ Read ∷ Notice ∷ Nothing ∷ Show ∷ ShowCommands ∷ Bench ∷ []
+verbs = Nothing ∷ Check ∷ Section ∷ Compile ∷ Read ∷ Notice ∷ Page ∷ Show ∷ ShowCommands ∷ Bench ∷ []
 
 -- the verb that has this number [T1]
 abbrev pub verbOf : (number : ℕ) → Verb
@@ -41,8 +42,13 @@ acceptedLine name = name ++ ascii ": accepted\n"
 abbrev pub noNumberLine : (word : List ℕ) → List ℕ
 noNumberLine word = word ++ ascii ": not a section's number\n"
 
+-- the page on two sheets; none where a name or a digest is too long for it [T7]
+abbrev pub pageOf : (one two : File) → Result
+pageOf one two =
+    cond (isShown one && isShown two) (unless (verdict (one .bytes)) (verdict (two .bytes)) (pageText one two)) noCall
+
 -- EACH VERB, by the definitions of the library: what it has to say of its files
--- [T1, T2, T3, T4, T5, T6, S9, D2.1, C7, N1, R10]
+-- [T1, T2, T3, T4, T5, T6, T7, S9, D2.1, C7, N1, R10]
 abbrev pub Does : Verb → (one two : File) (out : List ℕ) (c : Came) (out′ : List ℕ) → Type 0
 Does Check one two out c out′ = Gives (unless (verdict (one .bytes)) Accepted (acceptedLine (one .name))) out c out′
 Does Section one two out c out′ =
@@ -55,6 +61,7 @@ Does Compile one two out c out′ = Gives (unless (verdict (one .bytes)) Accepte
 Does Read one two out c out′ = Gives (unless (streamVerdict (one .bytes)) Accepted (render (sheetIn (one .bytes)))) out c out′
 Does Notice one two out c out′ =
     Gives (unless (verdict (one .bytes)) (verdict (two .bytes)) (noticeText (one .bytes) (two .bytes))) out c out′
+Does Page one two out c out′ = Gives (pageOf one two) out c out′
 Does Bench one two out c out′ =
     Gives (unless (verdict (one .bytes)) (samplesVerdict (wordsIn (two .bytes))) (takenBytes (one .bytes) (wordsIn (two .bytes)))) out c out′
 Does Show one two out c out′ = Shows (verdict (one .bytes)) out c

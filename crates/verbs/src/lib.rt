@@ -1,9 +1,8 @@
 // The program between reading and writing, as one call: from a verb and the names and bytes of its files to the bytes for standard output, the line for standard error and the status.
 // Promises: output and status are those of the library's definitions; a refusal's line has the number, the place and the file that were answered; a refusal changes nothing in the room for standard output.
-// Rests on: sheet, compiler, reader, notice, bench (the work), decimal (a section's number), show (text), refusal, faults, stream_faults (the line of a refusal).
+// Rests on: sheet, compiler, reader, notice, report, bench (the work), decimal (a section's number), show (text), refusal, faults, stream_faults (the line of a refusal).
 ghost use Rattle.verbs.specs.Files.{file};
-ghost use mathlib.Core.Path.{_≡_};
-ghost use Rattle.verbs.specs.Run.{verbOf, Ran};
+ghost use Rattle.verbs.specs.Run.{Ran};
 
 mod line;
 mod page;
@@ -19,6 +18,8 @@ pub enum Verb {
     Compile,
     Read,
     Notice,
+    // The notice as a page for signing.
+    Page,
     Show,
     ShowCommands,
     // The second file holds the samples.
@@ -56,25 +57,6 @@ pub const DONE: u8 = 0;
 pub const REFUSED: u8 = 1;
 
 pub const TROUBLE: u8 = 2;
-
-// The verb that has this number in a call from C.
-pub fn verb_of(number: u8) -> Verb
-    ensures { λ r. ⌜ r ≡ verbOf number ⌝ }
-{
-    match number {
-        0 => Verb::Nothing,
-        1 => Verb::Check,
-        2 => Verb::Section,
-        3 => Verb::Compile,
-        4 => Verb::Read,
-        5 => Verb::Notice,
-        6 => Verb::Nothing,
-        7 => Verb::Show,
-        8 => Verb::ShowCommands,
-        9 => Verb::Bench,
-        _ => Verb::Nothing,
-    }
-}
 
 // Runs a verb on the names and bytes of its files. A verb that has one file ignores the second.
 pub fn run(

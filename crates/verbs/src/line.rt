@@ -63,6 +63,7 @@ fn put_first(out: &mut [u8], verb: Verb, bytes: &[u8], number: u8, place: usize)
         Verb::Section => faults::put_sheet_detail(out, 0, bytes, number, place),
         Verb::Compile => faults::put_sheet_detail(out, 0, bytes, number, place),
         Verb::Notice => faults::put_sheet_detail(out, 0, bytes, number, place),
+        Verb::Page => faults::put_sheet_detail(out, 0, bytes, number, place),
         Verb::Show => faults::put_sheet_detail(out, 0, bytes, number, place),
         Verb::Bench => faults::put_sheet_detail(out, 0, bytes, number, place),
         Verb::Nothing => 0,

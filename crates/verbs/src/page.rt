@@ -6,6 +6,13 @@ ghost use lib.ListN.{length};
 ghost use Rattle.buffer.specs.Room.{Wrote};
 ghost use Rattle.verbs.specs.Files.{file};
 ghost use Rattle.verbs.specs.Page.{digestText, sizeText, fileText, headText, isShown};
+ghost use Rattle.verbs.specs.Result.{bytes, Gives};
+ghost use Rattle.verbs.specs.Run.{pageOf};
+use crate::Came;
+use crate::work::of_outcome;
+use crate::work::put_two;
+use buffer::OUTPUT_TOO_SHORT;
+use notice::Noticed;
 
 // The most bytes of a name and of a digest on a page.
 const NAME: usize = 4096;
@@ -86,4 +93,68 @@ fn put_head(
     let a = buffer::put_at(out, 0, b"NOTICE OF ALTERATIONS\n\n");
     let b = put_file(out, a, b"Old sheet: ", first_name, first, first_digest);
     put_file(out, b, b"New sheet: ", second_name, second, second_digest)
+}
+
+// The head above a body.
+fn put_page(
+    out: &mut [u8],
+    first_name: &[u8],
+    first: &[u8],
+    first_digest: &[u8],
+    second_name: &[u8],
+    second: &[u8],
+    second_digest: &[u8],
+    body: &[u8],
+) -> Came
+    requires { ⌜ (length (now «first_name») ≤ 4096) × (length (now «first_digest») ≤ 64) ⌝ }
+    requires { ⌜ (length (now «second_name») ≤ 4096) × (length (now «second_digest») ≤ 64) ⌝ }
+    ensures { λ r. ⌜ Gives (bytes (headText (file (now («first_name» .entry)) (now (first .entry)) (now («first_digest» .entry))) (file (now («second_name» .entry)) (now (second .entry)) (now («second_digest» .entry))) ++ now (body .entry))) (now (out .entry)) r (now (out .exit)) ⌝ }
+{
+    let mut head = [0u8; HEAD];
+    let n = put_head(
+        &mut head,
+        first_name,
+        first,
+        first_digest,
+        second_name,
+        second,
+        second_digest,
+    );
+    of_outcome(put_two(out, peek::prefix(&head, n), body))
+}
+
+// The page on two sheets. The body is built first, so that a refusal writes nothing.
+pub(crate) fn page(
+    first_name: &[u8],
+    first: &[u8],
+    first_digest: &[u8],
+    second_name: &[u8],
+    second: &[u8],
+    second_digest: &[u8],
+    out: &mut [u8],
+) -> Came
+    ensures { λ r. ⌜ Gives (pageOf (file (now («first_name» .entry)) (now (first .entry)) (now («first_digest» .entry))) (file (now («second_name» .entry)) (now (second .entry)) (now («second_digest» .entry)))) (now (out .entry)) r (now (out .exit)) ⌝ }
+{
+    if !is_shown(first_name, first, first_digest) {
+        return Came::NoCall;
+    }
+    if !is_shown(second_name, second, second_digest) {
+        return Came::NoCall;
+    }
+    let mut body = [0u8; report::LONGEST];
+    match report::report(first, second, &mut body) {
+        Noticed::Old(number, place) => Came::First(number, place),
+        Noticed::New(number, place) => Came::Second(number, place),
+        Noticed::Short(needed) => Came::First(OUTPUT_TOO_SHORT, needed),
+        Noticed::Done(n) => put_page(
+            out,
+            first_name,
+            first,
+            first_digest,
+            second_name,
+            second,
+            second_digest,
+            &body[0..n],
+        ),
+    }
 }

@@ -12,6 +12,7 @@ ghost use Rattle.verbs.specs.Result.{unless, noNumber, Gives, ofOutcome,
 ghost use Rattle.verbs.specs.Run.{acceptedLine, Does};
 use crate::Came;
 use crate::Verb;
+use crate::page;
 use crate::samples;
 use crate::shown;
 use buffer::OUTPUT_TOO_SHORT;
@@ -96,6 +97,15 @@ pub(crate) fn work(
         Verb::Compile => of_outcome(compiler::compile(first, out)),
         Verb::Read => of_outcome(reader::read(first, out)),
         Verb::Notice => of_noticed(notice::notice(first, second, out)),
+        Verb::Page => page::page(
+            first_name,
+            first,
+            first_digest,
+            second_name,
+            second,
+            second_digest,
+            out,
+        ),
         Verb::Show => shown::sheet(first, out),
         Verb::ShowCommands => shown::commands(first, out),
         Verb::Bench => samples::bench(first, second, out),

@@ -1,6 +1,8 @@
 -- `commands` meets its contract: some text, and the verdict. Assumes nothing.
 use lib.Dec.{lit≤}
 use mathlib.Core.Path.{refl, _∙_}
+use Rattle.kinds.specs.Table.{kindOf, mostOf, descriptionSize}
+use Rattle.sheet.specs.Parsed.{longestFrom}
 use Rattle.verbs.proofs.Giving.{shows, read-done, read-refused}
 use borrow.Author.Needs.{needs}
 use Rattle.verbs.proofs.shown.commands.Statement.{statement}
@@ -37,12 +39,14 @@ same-length : tie.Need-same-length
 same-length c = search needs
 
 returns : tie.Need-returns
+unfolding longestFrom mostOf kindOf descriptionSize
 returns c = shows _ _ _ _ _ _ (read-done _ _ _ _ (λ i. c .before .before .before .before .before .before .before .before .before .before .before .shared-slice-known .given i .fits) (lit≤ tt) (c .before .before .before .before .before .before .before .before .read .ensures .0) _ (c .before .before .before .before .before .enum-told .given .1)) (c .before .before .before .put-commands .kept .0) (c .within .ensures) refl
 
 same-length-2 : tie.Need-same-length-2
 same-length-2 c = search needs
 
 returns-2 : tie.Need-returns-2
+unfolding longestFrom mostOf kindOf descriptionSize
 returns-2 c = shows _ _ _ _ _ _ (read-refused _ _ _ _ (λ i. c .before .before .before .before .before .before .before .before .before .before .before .before .before .before .before .before .shared-slice-known .given i .fits) (lit≤ tt) (c .before .before .before .before .before .before .before .before .before .before .before .before .before .read .ensures .0) _ _ (c .before .before .before .before .before .before .before .before .before .before .number .given .1)) (c .before .before .before .put-mark .kept .0 ∙ c .before .before .before .before .before .before .before .put-commands2 .kept .0) (c .within2 .ensures) refl
 
 pub commands-spec : {M : Type 1} → statement M

@@ -3,10 +3,10 @@ use native.Mathlib.Omega.{arith}
 use Prim.Native.Nat.{ℕ, suc, zero-le, _≤_}
 use mathlib.Core.Path.{_≡_, sym}
 use lib.ListN.{List·getD-eq-default}
 use Rattle.verbs.specs.declared.Verb.the-variants.{Nothing}
 use Rattle.verbs.specs.Run.{verbs}
-use Rattle.verbs.proofs.verb_of.Statement.{statement}
-use Rattle.verbs.proofs.verb_of.Tie as tie
+use Rattle.voltamar_cli.proofs.verb_of.Statement.{statement}
+use Rattle.voltamar_cli.proofs.verb_of.Tie as tie
 
 -- a number that is not the least it could be is above that
 up : (k n : ℕ) → k ≤ n → (n ≡ k → ⊥) → suc k ≤ n
