@@ -30,12 +30,13 @@ use Rattle.sum.specs.Description as sum
 use Rattle.sum.specs.Words.{wordsOf}
 use Rattle.sum_telling.specs.Description as sum-telling
 use Rattle.sum_telling.specs.Telling.{patterns, leastPattern, answerOf, sumTelling}
+use Rattle.notice.specs.declared.Finding.{Finding}
 use Rattle.notice.specs.declared.Finding.the-variants.{New, Gone, Name, Changed}
 use Rattle.notice.specs.declared.Line.{Line}
-use Rattle.notice.specs.Text.{changeText, findingText, renderAll}
+use Rattle.notice.specs.Text.{changeText, findingText, render, renderAll}
 use Rattle.notice.specs.Findings.{line, unlessSame, sharedLines, slotLines}
 use Rattle.notice.specs.Notice.{linesFrom, sectionsLines, noticeLines, noticeText, changeMost, slotMost, mostText, longestNotice}
-use Rattle.notice.proofs.Lines.{renderAll-append, one-length}
+use Rattle.notice.proofs.Lines.{renderAll-append, render-length, one-length}
 use Rattle.notice.proofs.Slots.{shared-length}
 
 -- ---- a changed description
@@ -94,6 +95,16 @@ change-most (suc (suc zero)) d e = any-within (edge.telling d e)
 change-most (suc (suc (suc zero))) d e = sum-within (leastPattern (wordsOf (sum.fromBytes d)) (wordsOf (sum.fromBytes e)))
 change-most (suc (suc (suc (suc zero)))) d e = omega arith
 change-most (suc (suc (suc (suc (suc k))))) d e = omega arith
+
+-- no line has more than an edge's
+pub line-most : (l : Line) → length (render l) ≤ 31
+line-most l = omega (arith, render-length l, by-finding (l .finding))
+  where
+    by-finding : (f : Finding) → 8 + length (findingText f) ≤ 31
+    by-finding New = omega arith
+    by-finding Gone = omega arith
+    by-finding Name = omega arith
+    by-finding (Changed t) = any-within t
 
 -- ---- a slot
 

@@ -9,7 +9,7 @@ use native.Mathlib.Nat.{sub-zero}
 use native.Mathlib.Omega.{arith}
 use borrow.Author.Tests.{eq-eqb, ne-eqb, lt-ltb, le-ltb}
 use lib.Dec.{eqb}
-use lib.ListN.{length, getD, take, drop, length-drop}
+use lib.ListN.{length, getD, take, drop, length-drop, List·getD-eq-default}
 use lib.Seq.{drop-drop}
 use Rattle.compare.specs.Same.{same}
 use Rattle.buffer.specs.declared.Verdict.the-variants.{Accepted}
@@ -24,6 +24,7 @@ use Rattle.sheet.specs.Parsed.{Ordered, parse}
 use Rattle.sheet.specs.declared.Judged.{Judged}
 use Rattle.sheet.proofs.Cursors.{front-fits}
 use Rattle.sheet.proofs.Cut.{Cut, part-records, part-ordered}
+use Rattle.sheet.proofs.Theorems.{accepted-wellformed}
 use Rattle.sheet.proofs.Found.{front-find, after-find, after-ordered}
 use Rattle.notice.specs.declared.Cursor.{Cursor}
 use Rattle.notice.specs.declared.Finding.{Finding}
@@ -276,7 +277,14 @@ module _ (k slot : ℕ) (s : List ℕ) (judged : Judged) where
   no-record h = rw (le-ltb k sections h)
 
   pub record-by : IsRecordWith k slot s judged (recordBy k slot s judged)
-  record-by h a e = some-record h ∙ ap (find slot) (part-records s judged k _ h (record { accepted = a; laid = e; is = refl }))
+  unfolding find
+  record-by a e =
+      elim (decLt k sections) [
+        | yes h ↦ some-record h ∙ ap (find slot) (part-records s judged k _ h (record { accepted = a; laid = e; is = refl }))
+        | no h ↦
+            let none : getD (parse s) k [] ≡ [] = List·getD-eq-default (parse s) [] {n = k} (rw (accepted-wellformed s a .all) (omega arith)) in
+            no-record (omega arith) ∙ sym (ap (find slot) none)
+      ]
 
 -- ---- a record found one after the other: the first of a part, or one behind it, or none
 

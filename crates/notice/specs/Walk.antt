@@ -1,6 +1,6 @@
 -- The lines of a notice one by one, from a cursor on: computed, by one walk over both sheets' records; theorem from-start
 -- (proofs/Walking) has it that from the start on they are the notice's.
-use Prim.Native.Nat.{ℕ, zero, suc, _+_, _-_, _<_}
+use Prim.Native.Nat.{ℕ, zero, suc, _+_, _-_}
 use mathlib.Core.Path.{_≡_}
 use mathlib.Core.Bool.{Bool, true, false, cond, _&&_}
 use mathlib.Core.List.{List, [], _∷_, _++_}
@@ -106,4 +106,4 @@ StartsAll c = (old new : List ℕ) → verdict old ≡ Accepted → verdict new 
 
 -- the record of an accepted sheet, judged, that has the slot [G9, B7]
 abbrev pub IsRecordWith : (k slot : ℕ) (sheet : List ℕ) → Judged → List ℕ → Type 0
-IsRecordWith k slot sheet judged r = k < sections → verdict sheet ≡ Accepted → judged ≡ judgedOf sheet → r ≡ recordWith k slot sheet
+IsRecordWith k slot sheet judged r = verdict sheet ≡ Accepted → judged ≡ judgedOf sheet → r ≡ recordWith k slot sheet

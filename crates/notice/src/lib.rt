@@ -4,6 +4,7 @@
 mod meet;
 mod put;
 mod record;
+mod single;
 mod text;
 mod walk;
 
@@ -12,6 +13,7 @@ ghost use lib.ListN.{length};
 ghost use Rattle.notice.specs.Notice.{NoticeGiven, NoticeNumbered, longestNotice};
 use lut::Telling;
 pub use record::record_of;
+pub use single::put_line;
 pub use walk::next_line;
 pub use walk::start;
 

@@ -1,52 +1,63 @@
-// The pattern of the sixteen sources that a sum's line shows, in words.
-ghost use Prim.Native.Nat.{_<_};
+// The sources of a sum that hit in a pattern, by name.
+ghost use Prim.Native.Nat.{_+_, _%_, _≤_, _<_};
+ghost use mathlib.Core.Bool.{cond};
+ghost use mathlib.Core.List.{[]};
+ghost use lib.Dec.{eqb};
+ghost use lib.ListN.{length, getD};
+ghost use Rattle.buffer.specs.Room.{Wrote};
+ghost use Rattle.refusal.specs.Words.{ascii};
+ghost use Rattle.report.specs.Words.{sources, namesIn, sourcesText};
+use crate::put::put;
+use crate::put::put_two;
 
-// Where the four digits of the pattern stand in a line.
-const PATTERN: usize = 13;
+const SOURCES: usize = 16;
 
-const SOURCES: u32 = 16;
+// How many bytes a name has, the space before it included.
+const WIDTH: usize = 8;
 
-// The sources that hit, by name; that none does.
-pub(crate) fn put_sources(out: &mut [u8], at: usize, line: &[u8]) -> usize {
-    let pattern = pattern_of(line);
-    if pattern == 0 {
-        return buffer::put_at(out, at, b" none");
-    }
-    let mut behind = at;
-    let mut i: u32 = 0;
-    while i < SOURCES {
-        behind = put_source(out, behind, pattern, i);
-        i += 1;
-    }
-    behind
-}
+const NAMES: [u8; SOURCES * WIDTH] =
+    *b" TERM 00 TERM 01 TERM 02 TERM 03 TERM 04 TERM 05 TERM 06 TERM 07 TERM 08 TERM 09 RANG 00 RANG 01 EDGE 00 EDGE 01 timer 1 timer 2";
 
-// Source i, if it hits.
-fn put_source(out: &mut [u8], at: usize, pattern: u32, i: u32) -> usize {
-    if lines::line_value(pattern, i) == 0 {
+// Source i, if the lowest bit is 1.
+fn put_name(out: &mut [u8], at: usize, i: usize, bits: u32) -> usize
+    requires { ⌜ i < 16 ⌝ }
+    requires { ⌜ at + 8 ≤ length (now out) ⌝ }
+    ensures { λ r. ⌜ Wrote at (cond (eqb (bits % 2) 0) [] (ascii (getD sources i ""))) (now (out .entry)) (now (out .exit)) r ⌝ }
+{
+    if bits % 2 == 0 {
         return at;
     }
-    let name = text::source_name(i as usize);
-    let behind = buffer::put_at(out, at, b" ");
-    text::put_trimmed(out, behind, &name)
+    let names = NAMES;
+    let start = WIDTH * i;
+    let end = start + WIDTH;
+    put(out, at, &names[start..end])
 }
 
-fn pattern_of(line: &[u8]) -> u32 {
-    let first = hex_value(peek::byte_at(line, PATTERN));
-    let second = hex_value(peek::byte_at(line, PATTERN + 1));
-    let third = hex_value(peek::byte_at(line, PATTERN + 2));
-    let fourth = hex_value(peek::byte_at(line, PATTERN + 3));
-    first * 0x1000 + second * 0x100 + third * 0x10 + fourth
-}
-
-fn hex_value(digit: u8) -> u32
-    ensures { λ r. ⌜ r < 16 ⌝ }
+// All that hit in a pattern.
+fn put_names(out: &mut [u8], from: usize, pattern: u32) -> usize
+    requires { ⌜ from + 128 ≤ length (now out) ⌝ }
+    ensures { λ r. ⌜ Wrote from (namesIn sources pattern) (now (out .entry)) (now (out .exit)) r ⌝ }
 {
-    if digit < b'0' {
-        0
-    } else if digit < b'A' {
-        ((digit - b'0') % 16) as u32
-    } else {
-        ((digit - 55) % 16) as u32
+    let mut at = from;
+    let mut bits = pattern;
+    let mut i: usize = 0;
+    while i < SOURCES {
+        at = put_name(out, at, i, bits);
+        bits = bits / 2;
+        i += 1;
     }
+    at
+}
+
+// The line on them.
+pub(crate) fn put_sources(out: &mut [u8], at: usize, pattern: u32) -> usize
+    requires { ⌜ at + 156 ≤ length (now out) ⌝ }
+    ensures { λ r. ⌜ Wrote at (sourcesText pattern) (now (out .entry)) (now (out .exit)) r ⌝ }
+{
+    let a = put(out, at, b"    sources that hit in it:");
+    if pattern == 0 {
+        return put_two(out, a, b" none", b"\n");
+    }
+    let b = put_names(out, a, pattern);
+    put(out, b, b"\n")
 }

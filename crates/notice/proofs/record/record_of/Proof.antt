@@ -14,7 +14,8 @@ slice-aggregate-result c = search needs
 returns : tie.Need-returns
 returns c =
     let a = c .before .before .before .args in
-    (sym (no-record (a .section) (a .slot) (now (a .sheet)) (a .t2) (c .before .if1 .taken)), λ h. absurd (omega arith))
+    let none = sym (no-record (a .section) (a .slot) (now (a .sheet)) (a .t2) (c .before .if1 .taken)) in
+    (none, subst (IsRecordWith (a .section) (a .slot) (now (a .sheet)) (a .t2)) (sym none) (record-by (a .section) (a .slot) (now (a .sheet)) (a .t2)))
 
 mul-suffix : tie.Need-mul-suffix
 mul-suffix c = search needs

@@ -1,0 +1,6 @@
+pub mod Naming
+pub mod Heads
+pub mod Lengths
+pub mod Counting
+pub mod Entering
+pub mod Answers
