@@ -6,12 +6,13 @@ use mathlib.Core.List.{List, [], _∷_, _++_}
 use native.Mathlib.Decide.{ℕ-discrete}
 use native.Mathlib.Omega.{arith}
 use borrow.Author.Tests.{eq-eqb, ne-eqb}
-use lib.Dec.{eqb}
+use lib.Dec.{eqb, lit≤}
 use lib.ListN.{length, getD, set, length-append}
 use lib.Seq.{getD-set-same, getD-set-other}
 use Rattle.notice.specs.declared.Line.{Line}
 use Rattle.notice.specs.Text.{render, renderAll}
-use Rattle.notice.specs.Notice.{noticeLines, noticeText}
+use Rattle.kinds.specs.Table.{kindOf, mostOf}
+use Rattle.notice.specs.Notice.{noticeLines, noticeText, slotMost, mostText, longestNotice}
 use Rattle.notice.proofs.Lengths as notice
 use Rattle.notice.proofs.Lines.{render-length}
 use Rattle.refusal.specs.Line.{decimal}
@@ -47,9 +48,12 @@ few-of s (l ∷ ls) =
     go true = omega arith
     go false = omega arith
 
-pub few : (s : ℕ) (old new : List ℕ) → howMany s (noticeLines old new) ≤ 2412
-unfolding noticeText
-few s old new = omega (arith, few-of s (noticeLines old new), notice.at-most old new)
+-- a notice has far fewer lines than a number of 64 bits can count
+pub few : (s : ℕ) (old new : List ℕ) → howMany s (noticeLines old new) ≤ 1000000
+unfolding noticeText mostText slotMost mostOf kindOf
+few s old new =
+    let most : longestNotice ≤ 1000000 = lit≤ tt in
+    omega (arith, most, few-of s (noticeLines old new), notice.at-most old new)
 
 -- the head by the counts is that by the lines
 same-counts : (f g : ℕ → ℕ) → ((s : ℕ) → s < 5 → f s ≡ g s) → countsText f ≡ countsText g
