@@ -55,7 +55,9 @@ module _ (old new out out′ : List ℕ) (r : Noticed) (fits : longestBody ≤ l
           same : (n p : ℕ) → Noticed.Old number place ≡ Noticed.Old n p → Refused n p ≡ Refused number place
           same n p g = cc
       go Accepted (Refused n p) q f = let z : _≡_ {A = ℕ} 0 1 = cc in absurd (omega arith)
-      go Accepted Accepted q f = let g = f ∙ simp (le-leb longestBody (length out) fits) in let z : _≡_ {A = ℕ} 0 1 = cc in absurd (omega arith)
+      go Accepted Accepted q f =
+          let g : Noticed.Old number place ≡ Noticed.Done (length (bodyText old new)) = f ∙ simp (le-leb longestBody (length out) fits) in
+          let z : _≡_ {A = ℕ} 0 1 = cc in absurd (omega arith)
 
   pub new-refused : (number place : ℕ) → r ≡ Noticed.New number place → (verdict old ≡ Accepted) × (verdict new ≡ Refused number place)
   new-refused number place e = go (verdict old) (verdict new) refl refl (sym e ∙ d .answer)
@@ -67,7 +69,9 @@ module _ (old new out out′ : List ℕ) (r : Noticed) (fits : longestBody ≤ l
         where
           same : (n p : ℕ) → Noticed.New number place ≡ Noticed.New n p → Refused n p ≡ Refused number place
           same n p g = cc
-      go Accepted Accepted q s f = let g = f ∙ simp (le-leb longestBody (length out) fits) in let z : _≡_ {A = ℕ} 0 1 = cc in absurd (omega arith)
+      go Accepted Accepted q s f =
+          let g : Noticed.New number place ≡ Noticed.Done (length (bodyText old new)) = f ∙ simp (le-leb longestBody (length out) fits) in
+          let z : _≡_ {A = ℕ} 0 1 = cc in absurd (omega arith)
 
   pub never-short : {A : Type 0} (n : ℕ) → r ≡ Noticed.Short n → A
   never-short n e = go (verdict old) (verdict new) (sym e ∙ d .answer)
@@ -75,7 +79,9 @@ module _ (old new out out′ : List ℕ) (r : Noticed) (fits : longestBody ≤ l
       go : {A : Type 0} (v w : Verdict) → Noticed.Short n ≡ answerOf v w (bodyText old new) (length out) → A
       go (Refused number p) w f = let z : _≡_ {A = ℕ} 0 1 = cc in absurd (omega arith)
       go Accepted (Refused number p) f = let z : _≡_ {A = ℕ} 0 1 = cc in absurd (omega arith)
-      go Accepted Accepted f = let g = f ∙ simp (le-leb longestBody (length out) fits) in let z : _≡_ {A = ℕ} 0 1 = cc in absurd (omega arith)
+      go Accepted Accepted f =
+          let g : Noticed.Short n ≡ Noticed.Done (length (bodyText old new)) = f ∙ simp (le-leb longestBody (length out) fits) in
+          let z : _≡_ {A = ℕ} 0 1 = cc in absurd (omega arith)
 
   pub done : (n : ℕ) → r ≡ Noticed.Done n → (verdict old ≡ Accepted) × (verdict new ≡ Accepted) × (n ≡ length (bodyText old new))
   done n e = go (verdict old) (verdict new) refl refl (sym e ∙ d .answer)
@@ -94,7 +100,7 @@ module _ (old new out out′ : List ℕ) (r : Noticed) (fits : longestBody ≤ l
   body-there n e =
       let same : n - 0 ≡ n = omega arith in
       let left : out′ ≡ bodyText old new ++ drop (length (bodyText old new)) out = d .left ∙ ap (λ (q : Noticed). leftBy q (bodyText old new) out) e in
-      ap (λ (k : ℕ). take k out′) same ∙ ap (λ (k : ℕ). take k out′) (done n e .1 .1) ∙ ap (take (length (bodyText old new))) left
+      ap (λ (k : ℕ). take k out′) same ∙ ap (λ (k : ℕ). take k out′) (done n e .2) ∙ ap (take (length (bodyText old new))) left
       ∙ take-append-seam (bodyText old new) (drop (length (bodyText old new)) out)
 
 -- ---- what then is said

@@ -1,7 +1,8 @@
 -- What is promised of the program's call, of the bytes that it leaves: `whole` and `told-of-the-first`, and by them each
 -- verb. Assumes nothing.
 use Prim.Native.Nat.{ℕ, _≤_}
-use mathlib.Core.Path.{_≡_, refl, sym, ap, _∙_}
+use mathlib.Core.Path.{_≡_, ap, _∙_}
+use mathlib.Core.Bool.{true, _&&_}
 use mathlib.Core.List.{List}
 use native.Mathlib.Omega.{arith}
 use borrow.Author.Tests.{le-leb}
@@ -19,14 +20,15 @@ use Rattle.notice.specs.Notice.{noticeText}
 use Rattle.refusal.specs.Line.{refusalLine}
 use Rattle.refusal.proofs.Theorems.{room-for-every-line}
 use Rattle.verbs.specs.declared.Verb.{Verb}
-use Rattle.verbs.specs.declared.Verb.the-variants.{Compile, Read, Notice, Bench}
+use Rattle.verbs.specs.declared.Verb.the-variants.{Compile, Read, Notice, Page, Bench}
 use Rattle.verbs.specs.declared.Came.{Came}
-use Rattle.verbs.specs.declared.Came.the-variants.{Done, First, Second}
+use Rattle.verbs.specs.declared.Came.the-variants.{Done}
 use Rattle.verbs.specs.declared.Ended.{Ended}
 use Rattle.verbs.specs.Files.{File}
+use Rattle.verbs.specs.Page.{isShown, pageText}
 use Rattle.verbs.specs.Samples.{wordsIn, samplesVerdict, takenBytes}
 use Rattle.verbs.specs.Result.{bytes, first, second, unless, Gives}
-use Rattle.verbs.specs.Run.{Does, Told, Says, statusOf, countOf, Ran}
+use Rattle.verbs.specs.Run.{Does, Told, statusOf, countOf, Ran}
 
 -- all went well: status 0, these bytes for standard output, nothing for standard error [T3, T8]
 pub record Written (text : List ℕ) (err : List ℕ) (r : Ended) (out′ err′ : List ℕ) : Type 0 where
@@ -113,6 +115,11 @@ module _ (one two : File) (out err : List ℕ) (r : Ended) (out′ err′ : List
       → length (noticeText (one .bytes) (two .bytes)) ≤ length out → Ran Notice one two out err r out′ err′
       → Written (noticeText (one .bytes) (two .bytes)) err r out′ err′
   notice-is-written a b h ran = whole Notice one two _ out err r out′ err′ (λ c d. rw (a, b) at d) h ran
+
+  -- the page on two accepted sheets, with names and digests that it has room for [T7]
+  pub page-is-written : (isShown one && isShown two) ≡ true → verdict (one .bytes) ≡ Accepted → verdict (two .bytes) ≡ Accepted
+      → length (pageText one two) ≤ length out → Ran Page one two out err r out′ err′ → Written (pageText one two) err r out′ err′
+  page-is-written s a b h ran = whole Page one two _ out err r out′ err′ (λ c d. rw (s, a, b) at d) h ran
 
   -- what capture takes of the samples of a file [T5, R10]
   pub takings-are-written : verdict (one .bytes) ≡ Accepted → samplesVerdict (wordsIn (two .bytes)) ≡ Accepted

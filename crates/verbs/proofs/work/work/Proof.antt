@@ -47,23 +47,29 @@ of-noticed-requires c κs = search needs
 enum-told-6 : tie.Need-enum-told-6
 enum-told-6 c = search needs
 
-sheet-requires : tie.Need-sheet-requires
-sheet-requires c κs = search needs
+page-requires : tie.Need-page-requires
+page-requires c κs = search needs
 
 enum-told-7 : tie.Need-enum-told-7
 enum-told-7 c = search needs
 
-commands-requires : tie.Need-commands-requires
-commands-requires c κs = search needs
+sheet-requires : tie.Need-sheet-requires
+sheet-requires c κs = search needs
 
 enum-told-8 : tie.Need-enum-told-8
 enum-told-8 c = search needs
 
-bench-requires : tie.Need-bench-requires
-bench-requires c κs = search needs
+commands-requires : tie.Need-commands-requires
+commands-requires c κs = search needs
 
 enum-told-9 : tie.Need-enum-told-9
 enum-told-9 c = search needs
+
+bench-requires : tie.Need-bench-requires
+bench-requires c κs = search needs
+
+enum-told-10 : tie.Need-enum-told-10
+enum-told-10 c = search needs
 
 same-length : tie.Need-same-length
 same-length c = search needs
@@ -99,22 +105,28 @@ same-length-6 : tie.Need-same-length-6
 same-length-6 c = search needs
 
 returns-6 : tie.Need-returns-6
-returns-6 c = rw (c .before .before .before .before .enum-told6 .given .1) (c .before .before .sheet .ensures)
+returns-6 c = rw (c .before .before .before .before .enum-told6 .given .1) (c .before .before .page .ensures)
 
 same-length-7 : tie.Need-same-length-7
 same-length-7 c = search needs
 
 returns-7 : tie.Need-returns-7
-returns-7 c = rw (c .before .before .before .before .enum-told7 .given .1) (c .before .before .commands .ensures)
+returns-7 c = rw (c .before .before .before .before .enum-told7 .given .1) (c .before .before .sheet .ensures)
 
 same-length-8 : tie.Need-same-length-8
 same-length-8 c = search needs
 
 returns-8 : tie.Need-returns-8
-returns-8 c = rw (c .before .before .before .before .enum-told8 .given .1) (c .before .before .bench .ensures)
+returns-8 c = rw (c .before .before .before .before .enum-told8 .given .1) (c .before .before .commands .ensures)
+
+same-length-9 : tie.Need-same-length-9
+same-length-9 c = search needs
 
 returns-9 : tie.Need-returns-9
-returns-9 c = rw (c .enum-told9 .given .1) (record { came = refl; left = refl })
+returns-9 c = rw (c .before .before .before .before .enum-told9 .given .1) (c .before .before .bench .ensures)
+
+returns-10 : tie.Need-returns-10
+returns-10 c = rw (c .enum-told10 .given .1) (record { came = refl; left = refl })
 
 pub work-spec : {M : Type 1} → statement M
 work-spec =
@@ -134,12 +146,14 @@ work-spec =
     notice-requires
     of-noticed-requires
     enum-told-6
-    sheet-requires
+    page-requires
     enum-told-7
-    commands-requires
+    sheet-requires
     enum-told-8
-    bench-requires
+    commands-requires
     enum-told-9
+    bench-requires
+    enum-told-10
     same-length
     returns
     same-length-2
@@ -156,4 +170,6 @@ work-spec =
     returns-7
     same-length-8
     returns-8
-    returns-9)
+    same-length-9
+    returns-9
+    returns-10)
