@@ -10,7 +10,7 @@ use lib.ListN.{length, getD, take, drop, length-append}
 use lib.Seq.{drop-append-seam, take-at, drop-at}
 use lib.Dec.{eqb, eqb→eq, ltb, lit<}
 use lib.Arith.{mod-mul}
-use borrow.Author.Tests.{lt-ltb, le-ltb, ne-eqb}
+use borrow.Author.Tests.{lt-ltb, le-ltb}
 use Rattle.lines.proofs.Computed.{every-below}
 use Rattle.lut.specs.Input.{Fits}
 use Rattle.lut.specs.declared.Input.{Input}
@@ -21,6 +21,7 @@ use Rattle.lut.specs.declared.Telling.the-variants.{Alike, Apart}
 use Rattle.notice.specs.declared.Finding.{Finding}
 use Rattle.notice.specs.declared.Finding.the-variants.{New, Gone, Name, Changed}
 use Rattle.notice.specs.declared.Line.{Line}
+use Rattle.notice.proofs.Splitting.{digit-not-end}
 use Rattle.notice.specs.Text.{hexDigit, hex, slotText, inputText, findingText, render, renderAll}
 use Rattle.notice.proofs.Lines.{name-length, render-length}
 
@@ -55,14 +56,6 @@ unhex-hex (suc n) x acc =
 
 unhex-all : (n x : ℕ) → x < 16 ^ n → unhex 0 (hex n x) ≡ x
 unhex-all n x h = unhex-hex n x 0 ∙ rw (mod-eq-of-lt h) (omega arith)
-
--- no digit ends the line
-pub digit-not-end : (d : ℕ) → eqb (hexDigit d) 10 ≡ false
-digit-not-end d =
-    elim (decLt d 10) [
-      | yes l ↦ rw (lt-ltb d 10 l) (ne-eqb (48 + d) 10 (λ e. omega arith))
-      | no l ↦ rw (le-ltb d 10 (omega arith)) (ne-eqb (55 + d) 10 (λ e. omega arith))
-    ]
 
 -- ---- a line
 

@@ -1,8 +1,6 @@
 -- What stands in the room of a notice, line by line.
 use Prim.Native.Nat.{ℕ}
-use mathlib.Core.Bool.{cond}
-use mathlib.Core.List.{List, [], _∷_, _++_, List·Memᴰ}
-use lib.Dec.{eqb}
+use mathlib.Core.List.{List, List·Memᴰ}
 use lib.ListN.{take}
 use Rattle.lut.specs.declared.Input.{Input}
 use Rattle.lut.specs.Input.{Fits}
@@ -10,19 +8,11 @@ use Rattle.lut.specs.declared.Telling.the-variants.{Apart}
 use Rattle.notice.specs.declared.Finding.{Finding}
 use Rattle.notice.specs.declared.Finding.the-variants.{Changed}
 use Rattle.notice.specs.Text.{render}
+unfoldable pub use Rattle.notice.specs.Split.{splitFrom}
+pub use Rattle.notice.specs.Split.{linesIn}
 use Rattle.notice.specs.declared.Noticed.{Noticed}
 use Rattle.notice.specs.Findings.{line}
 use Rattle.notice.specs.Notice.{noticedPlace}
-
--- bytes cut behind each line feed, where `begun` is what has come of the first line; a rest with none is a line too [N1]
-unfoldable pub splitFrom : (begun bs : List ℕ) → List (List ℕ)
-splitFrom [] [] = []
-splitFrom (x ∷ begun) [] = (x ∷ begun) ∷ []
-splitFrom begun (b ∷ bs) = cond (eqb b 10) ((begun ++ (b ∷ [])) ∷ splitFrom [] bs) (splitFrom (begun ++ (b ∷ [])) bs)
-
--- the lines of a text, each with its line feed [N1]
-abbrev pub linesIn : List ℕ → List (List ℕ)
-linesIn = splitFrom []
 
 -- what the notice's call wrote: as many bytes, from the room's start on, as its answer says [A1, A5]
 abbrev pub written : (r : Noticed) (room : List ℕ) → List ℕ

@@ -5,3 +5,4 @@ pub mod Walking
 pub mod Across
 pub mod Answers
 pub mod Members
+pub mod Splitting

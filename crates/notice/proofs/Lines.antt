@@ -12,7 +12,7 @@ use Rattle.kinds.proofs.Rows.{always}
 use Rattle.notice.specs.declared.Line.{Line}
 use Rattle.notice.specs.Text.{hex, slotText, inputText, changeText, findingText, render, renderAll}
 
-pub renderAll-one : (l : Line) → renderAll (l ∷ []) ≡ render l
+renderAll-one : (l : Line) → renderAll (l ∷ []) ≡ render l
 unfolding renderAll
 renderAll-one l = append-nil (render l)
 

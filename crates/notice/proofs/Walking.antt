@@ -2,7 +2,7 @@
 -- start on the lines are the notice's. Assumes nothing.
 use Prim.Native.Nat.{ℕ, zero, suc, _+_, _-_, _^_, _≤_, _<_}
 use mathlib.Core.Path.{_≡_, refl, sym, ap, ap₂, _∙_}
-use mathlib.Core.Bool.{Bool, true, false, cond, _&&_, _||_}
+use mathlib.Core.Bool.{Bool, true, false, _||_}
 use mathlib.Core.List.{List, [], _∷_, _++_}
 use native.Mathlib.Decide.{decLt}
 use native.Mathlib.Nat.{sub-zero}
@@ -37,7 +37,7 @@ use Rattle.notice.specs.declared.Step.the-variants as Step
 use Rattle.notice.specs.Findings.{line, unlessSame, sharedLines, slotLines}
 use Rattle.notice.specs.Text.{render, renderAll}
 use Rattle.notice.specs.Notice.{linesFrom, sectionsLines, noticeLines, noticeText}
-use Rattle.notice.specs.Walk.{partBy, recordBy, changeLines, leftLines, walkLines, partLines, cursorAt, cursorBehind, cursorNamed, walkSections, linesAt, metLines, stepLines, InSection, StartsAll, IsRecordWith}
+use Rattle.notice.specs.Walk.{partBy, recordBy, changeLines, leftLines, walkLines, partLines, cursorAt, cursorBehind, cursorNamed, walkSections, linesAt, metLines, stepLines, StartsAll, IsRecordWith}
 
 -- ---- what a slot has left, as the code tests it: an empty part stands for a sheet without that slot
 

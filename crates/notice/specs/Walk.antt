@@ -15,7 +15,7 @@ use Rattle.sheet.specs.Parts.{judgedOf}
 use Rattle.sheet.specs.Parsed.{recordWith}
 use Rattle.sheet.specs.declared.Judged.{Judged}
 use Rattle.notice.specs.declared.Cursor.{Cursor}
-use Rattle.notice.specs.declared.Finding.the-variants.{New, Gone, Name, Changed}
+use Rattle.notice.specs.declared.Finding.the-variants.{Name, Changed}
 use Rattle.notice.specs.declared.Line.{Line}
 use Rattle.notice.specs.declared.meet.Met as met
 use Rattle.notice.specs.declared.meet.Met.the-variants as Met

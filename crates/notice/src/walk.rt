@@ -1,7 +1,6 @@
 // The walk over the lines of a notice: each slot of each section, with a cursor into each sheet's records.
 ghost use mathlib.Core.Path.{_≡_};
 ghost use Prim.Native.Nat.{_+_, _^_, _<_};
-ghost use lib.ListN.{length};
 ghost use Rattle.notice.specs.Walk.{cursorBehind, cursorNamed, cursorAt, partLines, linesAt, stepLines, InSection, StartsAll};
 use crate::Cursor;
 use crate::Finding;

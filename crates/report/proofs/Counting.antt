@@ -1,8 +1,8 @@
 -- The lines counted by sort, one after the other. Assumes nothing.
-use Prim.Native.Nat.{ℕ, zero, suc, _+_, _≤_, _<_}
+use Prim.Native.Nat.{ℕ, _+_, _≤_, _<_}
 use mathlib.Core.Bool.{Bool, true, false, cond}
 use mathlib.Core.Path.{_≡_, refl, sym, _∙_}
-use mathlib.Core.List.{List, [], _∷_, _++_}
+use mathlib.Core.List.{List, [], _∷_}
 use native.Mathlib.Decide.{ℕ-discrete}
 use native.Mathlib.Omega.{arith}
 use borrow.Author.Tests.{eq-eqb, ne-eqb}
@@ -15,7 +15,6 @@ use Rattle.kinds.specs.Table.{kindOf, mostOf}
 use Rattle.notice.specs.Notice.{noticeLines, noticeText, slotMost, mostText, longestNotice}
 use Rattle.notice.proofs.Lengths as notice
 use Rattle.notice.proofs.Lines.{render-length}
-use Rattle.refusal.specs.Line.{decimal}
 use Rattle.report.specs.Page.{sortOf, howMany, headOn, countsText, entriesText}
 use Rattle.report.proofs.Heads.{head-some}
 use Rattle.report.proofs.Lengths.{entries-some}

@@ -1,7 +1,7 @@
 -- The loop over the lines: what is still to be written and counted makes what was to be. Assumes nothing.
 use Prim.Native.Nat.{ℕ, _+_, _^_, _≤_, _<_}
-use mathlib.Core.Path.{_≡_, refl, sym, ap, _∙_}
-use mathlib.Core.List.{List, [], _∷_, _++_}
+use mathlib.Core.Path.{_≡_, refl, ap, _∙_}
+use mathlib.Core.List.{List, _∷_}
 use native.Mathlib.Decide.{decLt}
 use native.Mathlib.Omega.{arith}
 use lib.Dec.{eqb, eqb→eq}
@@ -24,7 +24,7 @@ use Rattle.report.specs.Page.{entryText, entriesText, sortOf, howMany}
 use Rattle.report.proofs.Lengths.{entries-most}
 use Rattle.report.proofs.Counting.{Counted, counted-turn, few}
 
-pub sort-small : (f : Finding) → sortOf f < 5
+sort-small : (f : Finding) → sortOf f < 5
 sort-small New = omega arith
 sort-small Gone = omega arith
 sort-small Name = omega arith

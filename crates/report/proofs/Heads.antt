@@ -1,11 +1,9 @@
 -- What stands above the lines: which head, and how long it can be. Assumes nothing.
-use Prim.Native.Nat.{ℕ, zero, suc, _+_, _≤_}
+use Prim.Native.Nat.{ℕ, zero, suc, _≤_}
 use mathlib.Core.Path.{_≡_, refl}
-use mathlib.Core.List.{List, [], _∷_, _++_}
+use mathlib.Core.List.{[]}
 use native.Mathlib.Omega.{arith}
 use lib.ListN.{length, length-append}
-use Rattle.refusal.specs.Words.{ascii}
-use Rattle.refusal.specs.Line.{decimal}
 use Rattle.refusal.proofs.Lengths.{number-length}
 use Rattle.report.specs.Page.{headOn, countsText}
 

@@ -25,8 +25,8 @@ use Rattle.notice.specs.Findings.{line, unlessSame, sharedLines, slotLines}
 use Rattle.notice.specs.Notice.{linesFrom, sectionsLines, noticeLines}
 use Rattle.notice.proofs.Lengths.{line-most}
 use Rattle.notice.proofs.Lines.{render-length}
-use Rattle.report.specs.Words.{lineOf, linesOf, ending, alteredBare, stated, sourcesText, sources, namesIn, alteredText, sayingText, endingText}
-use Rattle.report.specs.Page.{labelText, labelsText, entryText, entriesText, howMany, headText, bodyText, longestSlot, longestBody}
+use Rattle.report.specs.Words.{lineOf, ending, alteredBare, stated, sourcesText, sources, namesIn, alteredText, sayingText, endingText}
+use Rattle.report.specs.Page.{labelText, labelsText, entryText, entriesText, howMany, bodyText, longestSlot, longestBody}
 use Rattle.report.proofs.Naming.{names-most}
 use Rattle.report.proofs.Heads.{head-most}
 
@@ -47,7 +47,7 @@ pub label-most : (r : List ℕ) → length (labelText r) ≤ 16
 label-most [] = omega arith
 label-most (x ∷ r) = simp length-append (omega (arith, length-take 8 r))
 
-pub labels-most : (old new : List ℕ) → length (labelsText old new) ≤ 59
+labels-most : (old new : List ℕ) → length (labelsText old new) ≤ 59
 labels-most old new = simp length-append (omega (arith, label-most old, label-most new))
 
 sources-most : (pattern : ℕ) → length (sourcesText pattern) ≤ 156
@@ -64,7 +64,7 @@ bare-most k = go (getD stated k false)
     go true = omega arith
     go false = omega arith
 
-pub altered-most : (k : ℕ) (i : Input) → length (alteredText k i) ≤ 241
+altered-most : (k : ℕ) (i : Input) → length (alteredText k i) ≤ 241
 altered-most k Nothing = omega (arith, bare-most k)
 altered-most k (Sample s) = omega arith
 altered-most k (Samples e l) = omega arith
@@ -82,7 +82,7 @@ entry-length l old new =
     length-append (render l ++ sayingText (l .section) (l .finding)) (labelsText old new)
     ∙ ap (λ (n : ℕ). n + length (labelsText old new)) (length-append (render l) (sayingText (l .section) (l .finding)))
 
-pub entry-most : (l : Line) (old new : List ℕ) → length (entryText l old new) ≤ 331
+entry-most : (l : Line) (old new : List ℕ) → length (entryText l old new) ≤ 331
 entry-most l old new = omega (arith, entry-length l old new, line-most l, saying-most (l .section) (l .finding), labels-most old new)
 
 name-most : (k slot : ℕ) (old new : List ℕ) → length (entryText (line k slot Name) old new) ≤ 102
@@ -165,7 +165,7 @@ module _ (old new : List ℕ) where
 
 -- ---- the body
 
-pub ending-length : length endingText ≡ 754
+ending-length : length endingText ≡ 754
 unfolding endingText
 ending-length = refl
 

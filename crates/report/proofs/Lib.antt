@@ -4,3 +4,5 @@ pub mod Lengths
 pub mod Counting
 pub mod Entering
 pub mod Answers
+pub mod Parted
+pub mod Theorems

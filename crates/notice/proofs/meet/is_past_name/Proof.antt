@@ -1,5 +1,4 @@
 -- `is_past_name` meets its contract. Assumes nothing.
-use mathlib.Core.Path.{refl}
 use borrow.Author.Needs.{needs}
 use Rattle.notice.proofs.meet.is_past_name.Statement.{statement}
 use Rattle.notice.proofs.meet.is_past_name.Tie as tie

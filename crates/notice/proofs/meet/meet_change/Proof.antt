@@ -1,6 +1,5 @@
 -- `meet_change` meets its contract, by what the comparison says. Assumes nothing.
-use mathlib.Core.Path.{sym, ap, _∙_}
-use Rattle.notice.specs.Findings.{line}
+use mathlib.Core.Path.{sym, _∙_}
 use borrow.Author.Needs.{needs}
 use Rattle.notice.proofs.meet.meet_change.Statement.{statement}
 use Rattle.notice.proofs.meet.meet_change.Tie as tie

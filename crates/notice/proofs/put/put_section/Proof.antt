@@ -1,6 +1,5 @@
 -- `put_section` meets its contract: line after line. Assumes nothing.
-use mathlib.Core.Path.{_≡_, sym, subst}
-use native.Mathlib.Omega.{arith}
+use mathlib.Core.Path.{sym, subst}
 use denote.Ref.{now}
 use lib.ListN.{length}
 use Rattle.buffer.proofs.Left.{Left, left-start, left-room, left-turn, left-end}

@@ -1,5 +1,5 @@
 -- `record_of` meets its contract: the part, then the record in it. Assumes nothing.
-use mathlib.Core.Path.{_≡_, sym, _∙_, subst}
+use mathlib.Core.Path.{sym, _∙_, subst}
 use native.Mathlib.Omega.{arith}
 use denote.Ref.{now}
 use Rattle.notice.specs.Walk.{IsRecordWith}

@@ -5,7 +5,7 @@ use native.Mathlib.Omega.{arith}
 use denote.Ref.{now}
 use Rattle.records.specs.Sections.{sections}
 use Rattle.notice.specs.declared.Cursor.{Cursor}
-use Rattle.notice.specs.Walk.{linesAt, stepLines, partLines, partBy, InSection}
+use Rattle.notice.specs.Walk.{linesAt}
 use Rattle.notice.proofs.Walking.{lines-old, lines-new, lines-end, lines-turn, lines-found}
 use borrow.Author.Needs.{needs}
 use Rattle.notice.proofs.walk.next_line.Statement.{statement}
