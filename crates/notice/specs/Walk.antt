@@ -1,5 +1,5 @@
--- The lines of a notice one by one, from a cursor on: computed, by one walk over both sheets' records; theorem from-start
--- (proofs/Walking) has it that from the start on they are the notice's.
+-- The lines of a notice one by one, from a cursor on: computed, by one walk over both sheets' records.
+-- Theorem from-start (proofs/Walking) has it that from the start on they are the notice's.
 use Prim.Native.Nat.{ℕ, zero, suc, _+_, _-_}
 use mathlib.Core.Path.{_≡_}
 use mathlib.Core.Bool.{Bool, true, false, cond, _&&_}
