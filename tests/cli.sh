@@ -10,6 +10,7 @@ trap 'chmod -R u+w "$room"; rm -rf "$room"' EXIT
 chmod 755 "$room"
 cd "$room" || exit 2
 failures=0
+unset RT_JOBS # the gate sets it for its own proofs; the script chooses its number by itself
 voltamar=${VOLTAMAR:-$root/voltamar}
 program=${VOLTAMAR:-$root/target/program/voltamar}
 
