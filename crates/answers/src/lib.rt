@@ -1,6 +1,8 @@
 // How an answer is handed over in numbers, to C for one: its number returned, the rest through pointers.
 // Promises: what is returned and what is left behind each pointer equal the definitions of the answer's parts.
 // Rests on: buffer, lut and notice (the answers).
+#![tactic(auto)]
+
 ghost use Rattle.std.specs.Prelude.{◌≡◌};
 ghost use Rattle.buffer.specs.Verdict.{verdict_number, verdict_place, outcome_number, outcome_place};
 ghost use Rattle.lut.specs.Answer.{answer_number, answer_hit, answer_place};

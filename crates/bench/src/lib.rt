@@ -1,6 +1,8 @@
 // The bench: runs the programme of a sheet over samples, and writes those that capture takes.
 // Promises: the sheet's refusal, 20, 24 or 12, or the words written and the run to hand on, as through the chain words; two pieces are one run (proofs/Theorems).
 // Rests on: programme (the sheet's table, and that it answers as the chain words do), buffer (answers and lent room), lines, lut and edge (digits, tables, an edge's rule).
+#![tactic(auto)]
+
 mod call;
 mod handed;
 mod moves;

@@ -1,6 +1,8 @@
 // Lent room, and what every call of the house answers.
 // Promises: writers are total; one that refuses changes nothing, one that writes leaves what lies beyond.
 // Rests on: peek (bytes as they are read).
+#![tactic(auto)]
+
 mod fields;
 mod room;
 mod words;

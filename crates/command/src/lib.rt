@@ -1,6 +1,8 @@
 // The stream's syntax: one command, one chain, written and read.
 // Promises: a writer answers the commands' length, or 12; a reader gives what stands there, and the first of 13 and 14.
 // Rests on: peek (bytes), buffer (lent room, refusals).
+#![tactic(auto)]
+
 mod put;
 mod read;
 

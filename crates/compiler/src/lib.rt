@@ -1,6 +1,8 @@
 // The compiler: from a set-up sheet to the commands that load its chains, by rising address.
 // Promises: a sheet's first fault by number and place, or its commands and their length, or 12 and the bytes needed; a refusal writes nothing.
 // Rests on: sheet (its verdict and where its sections lie), kinds (words, addresses), command (chains), buffer (lent room).
+#![tactic(auto)]
+
 ghost use Rattle.std.specs.Prelude.{◌≡◌};
 ghost use Rattle.buffer.specs.Room.{Delivered};
 ghost use Rattle.compiler.specs.Stream.{compiled, longest_stream};

@@ -1,6 +1,8 @@
 // Edge detectors: the plain rule, the eight chain words, the model that runs any eight words, the way back, and what tells two apart.
 // Promises: each call equals its definition in specs/; over a description's words the model hits exactly when the plain rule does (proofs/Theorems).
 // Rests on: lines (digits and computed tests), lut (tables, answers, what telling means), peek, compare and buffer (fields, words, lent room).
+#![tactic(auto)]
+
 mod back;
 mod description;
 mod model;

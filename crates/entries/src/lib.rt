@@ -1,6 +1,8 @@
 // The entries of the table that a bench makes of a sheet: one shape for each kind, and one for a slot without record.
 // Promises: each call equals its column of the table of sections (kinds/specs), for any section number and any bytes.
 // Rests on: kinds (the sections' numbers), sum and state (words), lines (scatter), peek and buffer (lent bytes and room).
+#![tactic(auto)]
+
 ghost use Rattle.buffer.specs.Room.{bytes, Delivered};
 ghost use Rattle.kinds.specs.Table.{entry_of, missing_of};
 

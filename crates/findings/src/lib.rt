@@ -1,6 +1,8 @@
 // What a notice says of two set-up sheets, old and new: its lines one by one, without their text.
 // Promises: over any bytes, the first line at or behind a cursor and the cursor behind it; from the start on, all lines; a record by its slot.
 // Rests on: kinds (what is found of two descriptions), sheet (sections), records, compare (parts that differ), peek (parts of lent bytes).
+#![tactic(auto)]
+
 mod meet;
 mod record;
 mod walk;

@@ -1,6 +1,8 @@
 // Gathering by a plain walk over all 32 lines, for the benchmark to compare `lines::gather` with; nothing else uses it.
 // Promises: the same answer as `lines::gather`, for every sample and mask.
 // Rests on: lines.
+#![tactic(auto)]
+
 ghost use Rattle.std.specs.Prelude.{◌≡◌};
 ghost use Rattle.lines.specs.Gather.{gathered};
 

@@ -1,6 +1,8 @@
 // The table of sections: the only place that knows how many kinds of record there are. Each question has one answer for each kind.
 // Promises: each call equals its column of the table in specs/, for any section number and any bytes.
 // Rests on: the kinds, each in its crate (term, range with range_telling, edge, sum with sum_telling, state).
+#![tactic(auto)]
+
 mod back;
 mod describe;
 mod layout;

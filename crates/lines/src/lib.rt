@@ -1,6 +1,8 @@
 // The 32 lines of a sample: one line, the masked lines packed into a number, and a number put back on the masked lines.
 // Promises: each call equals its definition in specs/, for any numbers; the laws of digits, lines and computed tests stand in proofs/.
 // Rests on: nothing.
+#![tactic(auto)]
+
 mod nibbles;
 
 ghost use Rattle.std.specs.Prelude.{◌≡◌};

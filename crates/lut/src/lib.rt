@@ -1,6 +1,8 @@
 // Lookup tables of sixteen bits, two to a 32-bit chain word; what the model answers; what a description is asked with, and what tells two apart.
 // Promises: `answer_at` is bit n of a table for address n, for any numbers.
 // Rests on: lines (a table's answer at an address is the table's digit there).
+#![tactic(auto)]
+
 ghost use Rattle.std.specs.Prelude.{◌≡◌};
 ghost use Rattle.lut.specs.Table.{answer_at};
 ghost use Rattle.lut.specs.Answer.{hit_or_miss};

@@ -1,6 +1,8 @@
 // The alteration notice as text: what changed between two set-up sheets, old and new, line by line.
 // Promises: over any bytes and any room, the rendered lines and their length, or a refusal that changes nothing; one line by itself.
 // Rests on: findings (the lines one by one, handed on here), kinds (names), sheet (verdict, sections), records, buffer (lent room).
+#![tactic(auto)]
+
 mod put;
 mod single;
 mod text;

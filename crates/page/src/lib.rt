@@ -1,6 +1,8 @@
 // The page for signing: a head with the two sheets' names, lengths and digests above the body of crates/report.
 // Promises: any names, bytes, digests and room are taken; the page is `page_text` of specs/, or an answer that changes nothing.
 // Rests on: report (the body), refusal (digits), notice (the body's answer), sheet (verdicts, in the contract), peek, buffer.
+#![tactic(auto)]
+
 mod head;
 
 ghost use Rattle.std.specs.Prelude.{◌≡◌, ◌≤◌, ◌++◌, length};

@@ -1,6 +1,8 @@
 // A programme: what a sheet's chain words answer, and the table, made once of a sheet, by which a bench asks for it.
 // Promises: a sheet's first fault, or its table; looking answers up in it is running the chain words in the model (proofs/Theorems, agrees).
 // Rests on: sheet (its verdict and sections), records and entries (descriptions and their entries), compiler (what it writes, in the definitions).
+#![tactic(auto)]
+
 ghost use Rattle.buffer.specs.Room.{Delivered};
 ghost use Rattle.programme.specs.Table.{prepared};
 

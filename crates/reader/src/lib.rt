@@ -1,6 +1,8 @@
 // The reader: from commands back to the set-up sheet that they load.
 // Promises: a stream's first fault by number and place, or the sheet and its length, or 12 and the bytes needed; a refusal writes nothing.
 // Rests on: command (the stream's syntax), kinds (the way back), sheet (its layout), compiler (what is sent).
+#![tactic(auto)]
+
 ghost use Rattle.buffer.specs.Room.{Delivered};
 ghost use Rattle.reader.specs.Back.{read_back};
 ghost use Rattle.reader.specs.Meaning.{ReadSays};

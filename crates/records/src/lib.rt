@@ -1,6 +1,8 @@
 // The records of a set-up sheet: a record's fields, sizes, and the records of a section's part.
 // Promises: each call equals its definition in specs/, for any bytes and any section number; what a record lacks counts as nothing, or as 0.
 // Rests on: peek (bytes), buffer (lent room), kinds (the table of sections).
+#![tactic(auto)]
+
 mod fields;
 mod layout;
 mod part;

@@ -1,6 +1,8 @@
 // The line that tells people of a refusal, built in lent room.
 // Promises: each call equals its definition in specs/: file, number, place, meaning and detail stand where the rule has them.
 // Rests on: peek (parts), buffer (lent room), io (decimal digits).
+#![tactic(auto)]
+
 mod line;
 mod meaning;
 mod put;

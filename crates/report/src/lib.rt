@@ -1,6 +1,8 @@
 // The page for signing below the names of the two sheets: the count of the notice's lines by sort, each line with what it says, the words' meaning.
 // Promises: any bytes and any room are taken; the page is `body_text` of specs/, or a refusal that changes nothing.
 // Rests on: notice (the lines, the records of a slot), sheet (verdict, sections), records (labels), kinds, lut, refusal (words, digits), peek, buffer and io.
+#![tactic(auto)]
+
 mod body;
 mod entry;
 mod head;

@@ -1,6 +1,8 @@
 // The set-up sheet: sections of records, each after a one-byte count; judged, and taken apart into its sections.
 // Promises: `check` gives the first fault's number and place; `section` a part of the lent bytes; any bytes are taken.
 // Rests on: peek and compare (bytes), buffer (verdicts), records (the table of sections, the fields and faults of a record).
+#![tactic(auto)]
+
 ghost use Rattle.std.specs.Prelude.{◌≡◌};
 ghost use Rattle.sheet.specs.Parsed.{longest_sheet};
 

@@ -1,6 +1,8 @@
 // Sequence states: which are accepted, their one chain word, and the way back.
 // Promises: each call equals its definition in specs/; a word is read as the fields that write it, and equal words are equal fields (proofs/Theorems).
 // Rests on: lut (a way back in numbers), peek, compare and buffer (bytes, flags within bounds, lent room).
+#![tactic(auto)]
+
 mod back;
 mod description;
 mod fields;

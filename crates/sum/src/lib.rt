@@ -1,6 +1,8 @@
 // Trigger sums: their operation words by code, their six chain words, the model over sixteen sources, and the way back.
 // Promises: each call equals its definition in specs/; what the words do is what the source document says of the operations (proofs/Theorems).
 // Rests on: lines (digits and computed tests), lut (tables and answers), peek, compare and buffer (codes, lent room).
+#![tactic(auto)]
+
 mod address;
 mod back;
 mod description;

@@ -1,6 +1,8 @@
 // What tells two sums apart: the least pattern of the sixteen sources on which one hits and the other misses, or that there is none.
 // Promises: the answer is that pattern, and Alike exactly where all 65,536 patterns hit alike, for any operation bytes.
 // Rests on: sum (a sum's operations and words, and what the model makes of them), lut (tables, what telling apart is).
+#![tactic(auto)]
+
 mod description;
 mod finals;
 mod least;

@@ -1,6 +1,8 @@
 // Words for people: how numbers, labels and names are put into a line that is built in lent room, and what each thing is called.
 // Promises: every call is safe and ends; what does not fit is left out.
 // Rests on: buffer (lent room), kinds (the sections by name), io (digits).
+#![tactic(auto)]
+
 mod names;
 mod put;
 

@@ -1,6 +1,8 @@
 // The program between reading and writing, as one call: from a verb and the names and bytes of its files to the bytes for standard output, the line for standard error and the status.
 // Promises: output and status are those of the library's definitions; a refusal's line has the number, the place and the file that were answered; a refusal changes nothing in the room for standard output.
 // Rests on: sheet, compiler, reader, notice, page, bench (the work), decimal (a section's number), show (text), refusal, faults, stream_faults (the line of a refusal).
+#![tactic(auto)]
+
 ghost use Rattle.page.specs.Files.{file};
 ghost use Rattle.verbs.specs.Run.{Ran};
 

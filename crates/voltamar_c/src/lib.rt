@@ -1,6 +1,8 @@
 // The calls for C and Rust, under their plain names; include/voltamar.h declares them and says each contract in words.
 // Promises: each answer, and all that is written through a pointer, equals a definition, for any input.
 // Rests on: sheet, compiler, reader, notice, bench (sheets, streams, samples), lines, term, range, edge, sum, sum_telling (rules and model), answers (handed over in numbers).
+#![tactic(auto)]
+
 ghost use Rattle.std.specs.Prelude.{◌≡◌, length};
 ghost use Rattle.buffer.specs.Verdict.{verdict_number, verdict_place, outcome_number, outcome_place};
 ghost use Rattle.buffer.specs.Room.{outcome, after};

@@ -1,6 +1,8 @@
 // The one call of crates/verbs for a main in C: program/main.c reads the files, calls it, and writes what it gives.
 // Promises: what is returned and left equals what crates/verbs says of the verb with this number.
 // Rests on: verbs (the call), page (a file, in the contract).
+#![tactic(auto)]
+
 ghost use Rattle.std.specs.Prelude.{◌≡◌};
 ghost use Rattle.page.specs.Files.{file};
 ghost use Rattle.verbs.specs.Run.{verb_of, Ran};

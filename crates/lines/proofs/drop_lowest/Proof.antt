@@ -7,14 +7,14 @@ use Rattle.lines.proofs.Drop.{drop_zero, and_pred}
 use Rattle.lines.proofs.drop_lowest.Statement.{statement}
 use Rattle.lines.proofs.drop_lowest.Tie as tie
 
-returns : tie.Need-returns
-returns c = sym (ap (drop_lowest 32) c.if1.true ∙ drop_zero 32)
+returns : tie.Need-returns-then-mask-eq0
+returns c = sym (ap (drop_lowest 32) c.if-mask-eq0.true ∙ drop_zero 32)
 
-sub-result : tie.Need-overflow-sub-result
+sub-result : tie.Need-overflow_sub-result
 sub-result c = search rules
 
-returns-2 : tie.Need-returns-2
+returns-2 : tie.Need-returns
 returns-2 c = and_pred 32 c.before.args.mask (omega arith) c.before.ranges.mask.fits
 
-pub drop-lowest-spec : {M : Type 1} → statement M
-drop-lowest-spec = tie.close (tie.spec returns sub-result returns-2)
+pub drop_lowest_spec : {M : Type 1} → statement M
+drop_lowest_spec = tie.close (tie.spec returns sub-result returns-2)

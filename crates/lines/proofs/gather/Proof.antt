@@ -112,80 +112,80 @@ module _ (sample mask : ℕ) where
       e ∙ ap (λ (j : ℕ). bytes_from j * 2 ^ (8 * j)) none ∙ mul-one (gathered 32 (sample / 1) (mask / 1))
       ∙ ap₂ (gathered 32) (div-one sample) (div-one mask)
 
-abbrev invariant-loop : tie.invariant-loop
+abbrev invariant-loop : tie.invariant-loop-i
 invariant-loop sample mask lower gaps nibbles packed₀ i₀ packed i = (i ≤ 4) × (packed ≡ bytes_from sample mask i * 2 ^ (8 * i))
 
-abbrev decreases-loop : tie.decreases-loop
+abbrev decreases-loop : tie.decreases-loop-i
 decreases-loop sample mask lower gaps nibbles packed₀ i₀ packed i = i
 
-unmasked-in-lower-requires : tie.Need-unmasked-in-lower-requires invariant-loop decreases-loop
+unmasked-in-lower-requires : tie.Need-unmasked_in_lower-lower-requires invariant-loop decreases-loop
 unmasked-in-lower-requires c κs = search rules
 
-unmasked-in-bytes-requires : tie.Need-unmasked-in-bytes-requires invariant-loop decreases-loop
+unmasked-in-bytes-requires : tie.Need-unmasked_in_bytes-gaps-requires invariant-loop decreases-loop
 unmasked-in-bytes-requires c κs = search rules
 
-packed-nibbles-requires : tie.Need-packed-nibbles-requires invariant-loop decreases-loop
+packed-nibbles-requires : tie.Need-packed_nibbles-nibbles-requires invariant-loop decreases-loop
 packed-nibbles-requires c κs = search rules
 
-loop-holds : tie.Need-loop-init invariant-loop decreases-loop
+loop-holds : tie.Need-loop-i-init invariant-loop decreases-loop
 unfolding gathered
 loop-holds c = (omega arith, refl)
 
-sub-i : tie.Need-overflow-sub-i invariant-loop decreases-loop
+sub-i : tie.Need-overflow_sub-i invariant-loop decreases-loop
 sub-i c = search rules
 
-mul_at : tie.Need-overflow-mul-at invariant-loop decreases-loop
+mul_at : tie.Need-overflow_mul-at invariant-loop decreases-loop
 mul_at c = search rules
 
-shl-low : tie.Need-overflow-shl-low invariant-loop decreases-loop
+shl-low : tie.Need-overflow_shl-low invariant-loop decreases-loop
 shl-low c = search rules
 
-shl-high : tie.Need-overflow-shl-high invariant-loop decreases-loop
+shl-high : tie.Need-overflow_shl-high invariant-loop decreases-loop
 shl-high c = search rules
 
-shr_high : tie.Need-overflow-shr-high invariant-loop decreases-loop
+shr_high : tie.Need-overflow_shr-high invariant-loop decreases-loop
 shr_high c = search rules
 
-shr-high-2 : tie.Need-overflow-shr-high-2 invariant-loop decreases-loop
-shr-high-2 c = under_32 (c.before.before.before.before.unmasked_in_lower.result / 2 ^ (8 * (c.before.loop.i - 1)))
+shr-high-2 : tie.Need-overflow_shr-high-in-loop-i invariant-loop decreases-loop
+shr-high-2 c = under_32 (c.before.before.before.before.unmasked_in_lower-lower.result / 2 ^ (8 * (c.before.loop-i.i - 1)))
 
-shr-packed : tie.Need-overflow-shr-packed invariant-loop decreases-loop
+shr-packed : tie.Need-overflow_shr-packed invariant-loop decreases-loop
 shr-packed c = search rules
 
-shr-packed-2 : tie.Need-overflow-shr-packed-2 invariant-loop decreases-loop
-shr-packed-2 c = under_32 (c.before.before.before.unmasked_in_bytes.result / 2 ^ (8 * (c.before.loop.i - 1)))
+shr-packed-2 : tie.Need-overflow_shr-packed-in-loop-i invariant-loop decreases-loop
+shr-packed-2 c = under_32 (c.before.before.before.unmasked_in_bytes-gaps.result / 2 ^ (8 * (c.before.loop-i.i - 1)))
 
-add-packed : tie.Need-overflow-add-packed invariant-loop decreases-loop
+add-packed : tie.Need-overflow_add-packed invariant-loop decreases-loop
 add-packed c =
     let l = c.before in
-    let whole = turn_lt _ _ _ _ _ l.before.before.before.unmasked_in_lower.ensures l.before.before.unmasked_in_bytes.ensures
-    l.before.packed_nibbles.ensures _ _ c.loop-test.true l.loop.invariant.0 l.loop.invariant.1 in
+    let whole = turn_lt _ _ _ _ _ l.before.before.before.unmasked_in_lower-lower.ensures l.before.before.unmasked_in_bytes-gaps.ensures
+    l.before.packed_nibbles-nibbles.ensures _ _ c.loop-i-test.true l.loop-i.invariant.0 l.loop-i.invariant.1 in
     record { fits = omega (arith, whole) }
 
-add-packed-2 : tie.Need-overflow-add-packed-2 invariant-loop decreases-loop
+add-packed-2 : tie.Need-overflow_add-packed-in-loop-i invariant-loop decreases-loop
 add-packed-2 c =
     let l = c.before in
     record {
-      fits = turn_lt _ _ _ _ _ l.before.before.before.unmasked_in_lower.ensures l.before.before.unmasked_in_bytes.ensures
-          l.before.packed_nibbles.ensures _ _ c.loop-test.true l.loop.invariant.0 l.loop.invariant.1;
+      fits = turn_lt _ _ _ _ _ l.before.before.before.unmasked_in_lower-lower.ensures l.before.before.unmasked_in_bytes-gaps.ensures
+          l.before.packed_nibbles-nibbles.ensures _ _ c.loop-i-test.true l.loop-i.invariant.0 l.loop-i.invariant.1;
     }
 
-loop-less : tie.Need-loop-smaller invariant-loop decreases-loop
+loop-less : tie.Need-loop-i-smaller invariant-loop decreases-loop
 loop-less c = search rules
 
-loop-again : tie.Need-loop-preserved invariant-loop decreases-loop
+loop-again : tie.Need-loop-i-preserved invariant-loop decreases-loop
 loop-again c =
     let l = c.before in (
       omega arith,
-      turn _ _ _ _ _ l.before.before.before.unmasked_in_lower.ensures l.before.before.unmasked_in_bytes.ensures
-          l.before.packed_nibbles.ensures _ _ c.loop-test.true l.loop.invariant.0 l.loop.invariant.1,
+      turn _ _ _ _ _ l.before.before.before.unmasked_in_lower-lower.ensures l.before.before.unmasked_in_bytes-gaps.ensures
+          l.before.packed_nibbles-nibbles.ensures _ _ c.loop-i-test.true l.loop-i.invariant.0 l.loop-i.invariant.1,
     )
 
 returns : tie.Need-returns invariant-loop decreases-loop
-returns c = bytes_all _ _ _ _ (omega arith) c.before.loop.invariant.1
+returns c = bytes_all _ _ _ _ (omega arith) c.before.loop-i.invariant.1
 
-pub gather-spec : {M : Type 1} → statement M
-gather-spec =
+pub gather_spec : {M : Type 1} → statement M
+gather_spec =
     tie.close
     (tie.spec
     invariant-loop

@@ -43,41 +43,41 @@ module _ (value mask spread rest left : ℕ) (s : Spreading value mask spread re
       → Spreading value mask (spread + bit_and rest 1 * 2 ^ count_trailing_zeros 32 left % 4294967296) (rest / 2) left'
   turn left' e = rw e (record { fits = omega (arith, drop_le 32 left, s.fits); whole = next })
 
-abbrev invariant-loop : tie.invariant-loop
+abbrev invariant-loop : tie.invariant-loop-left
 invariant-loop value mask spread₀ rest₀ left₀ spread rest left = Spreading value mask spread rest left
 
-abbrev decreases-loop : tie.decreases-loop
+abbrev decreases-loop : tie.decreases-loop-left
 decreases-loop value mask spread₀ rest₀ left₀ spread rest left = ones_in 32 left
 
-loop-holds : tie.Need-loop-init invariant-loop decreases-loop
+loop-holds : tie.Need-loop-left-init invariant-loop decreases-loop
 loop-holds c = record { fits = c.ranges.mask.fits; whole = add-zero _ }
 
-shl-spread : tie.Need-overflow-shl-spread invariant-loop decreases-loop
-shl-spread c = room _ _ _ _ _ c.before.loop.invariant c.loop-test.true
+shl-spread : tie.Need-overflow_shl-spread invariant-loop decreases-loop
+shl-spread c = room _ _ _ _ _ c.before.loop-left.invariant c.loop-left-test.true
 
-add-spread : tie.Need-overflow-add-spread invariant-loop decreases-loop
-add-spread c = record { fits = sum_fits _ _ _ _ _ c.before.loop.invariant c.loop-test.true }
+add-spread : tie.Need-overflow_add-spread invariant-loop decreases-loop
+add-spread c = record { fits = sum_fits _ _ _ _ _ c.before.loop-left.invariant c.loop-left-test.true }
 
-drop-lowest-requires : tie.Need-drop-lowest-requires invariant-loop decreases-loop
+drop-lowest-requires : tie.Need-drop_lowest-left-requires invariant-loop decreases-loop
 drop-lowest-requires c κs = search rules
 
-loop-less : tie.Need-loop-smaller invariant-loop decreases-loop
+loop-less : tie.Need-loop-left-smaller invariant-loop decreases-loop
 loop-less c =
-    let looped = c.before.before.loop in
-    let one = some _ _ _ _ _ looped.invariant c.before.loop-test.true in
-    rw (c.drop-lowest.ensures, ones_drop 32 looped.left) (omega arith)
+    let looped = c.before.before.loop-left in
+    let one = some _ _ _ _ _ looped.invariant c.before.loop-left-test.true in
+    rw (c.drop_lowest-left.ensures, ones_drop 32 looped.left) (omega arith)
 
-loop-again : tie.Need-loop-preserved invariant-loop decreases-loop
-loop-again c = turn _ _ _ _ _ c.before.before.loop.invariant c.before.loop-test.true _ c.drop-lowest.ensures
+loop-again : tie.Need-loop-left-preserved invariant-loop decreases-loop
+loop-again c = turn _ _ _ _ _ c.before.before.loop-left.invariant c.before.loop-left-test.true _ c.drop_lowest-left.ensures
 
 returns : tie.Need-returns invariant-loop decreases-loop
 returns c =
-    let l = c.before.loop in
+    let l = c.before.loop-left in
     let none : l.left ≡ 0 = omega arith in
     sym (zero-add l.spread) ∙ ap (λ (x : ℕ). x + l.spread) (sym (ap (scattered 32 l.rest) none ∙ scatter_none 32 l.rest)) ∙ l.invariant.whole
 
-pub scatter-spec : {M : Type 1} → statement M
-scatter-spec =
+pub scatter_spec : {M : Type 1} → statement M
+scatter_spec =
     tie.close
     (tie.spec
     invariant-loop

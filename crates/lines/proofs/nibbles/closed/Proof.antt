@@ -4,11 +4,11 @@ use Rattle.lines.proofs.Nibble.{closing_le}
 use Rattle.lines.proofs.nibbles.closed.Statement.{statement}
 use Rattle.lines.proofs.nibbles.closed.Tie as tie
 
-sub-result : tie.Need-overflow-sub-result
+sub-result : tie.Need-overflow_sub-result
 sub-result c = closing_le c.args.x c.args.holes
 
 returns : tie.Need-returns
 returns c = search rules
 
-pub closed-spec : {M : Type 1} → statement M
-closed-spec = tie.close (tie.spec sub-result returns)
+pub closed_spec : {M : Type 1} → statement M
+closed_spec = tie.close (tie.spec sub-result returns)

@@ -5,7 +5,7 @@ use Rattle.lines.proofs.Unmasked.{counting_le}
 use Rattle.lines.proofs.nibbles.counted.Statement.{statement}
 use Rattle.lines.proofs.nibbles.counted.Tie as tie
 
-add-result : tie.Need-overflow-add-result
+add-result : tie.Need-overflow_add-result
 add-result c = record { fits = omega (arith, counting_le c.args.pairs) }
 
 returns : tie.Need-returns

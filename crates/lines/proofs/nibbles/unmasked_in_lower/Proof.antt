@@ -15,5 +15,5 @@ returns c =
     let s = c.before.before in
     unmasked_in_lower s.args.mask s.ranges.mask.fits _ c.before.closed.ensures _ c.counted.ensures.0
 
-pub unmasked-in-lower-spec : {M : Type 1} → statement M
-unmasked-in-lower-spec = tie.close (tie.spec closed-requires counted-requires returns)
+pub unmasked_in_lower_spec : {M : Type 1} → statement M
+unmasked_in_lower_spec = tie.close (tie.spec closed-requires counted-requires returns)

@@ -9,29 +9,29 @@ use lib.Seq.{take_all}
 use Rattle.peek.proofs.bytes.suffix.Statement.{statement}
 use Rattle.peek.proofs.bytes.suffix.Tie as tie
 
-sub-result : tie.Need-overflow-sub-result
+sub-result : tie.Need-slice_bounds-result-count
 sub-result c = search rules
 
-part-result-start : tie.Need-slice-bounds-result-start
+part-result-start : tie.Need-slice_bounds-result-start
 part-result-start c = search rules
 
-part-result-end : tie.Need-slice-bounds-result-end
+part-result-end : tie.Need-slice_bounds-result-end
 part-result-end c = search rules
 
-slice-aggregate-result : tie.Need-slice-aggregate-result
+slice-aggregate-result : tie.Need-slice_bounds-result-end-else-at-bytes
 slice-aggregate-result c = search rules
 
-returns : tie.Need-returns
+returns : tie.Need-returns-then-at-bytes
 returns c =
     let s = c.before.before.args.bytes.now in
     let at = c.before.before.args.at in
     take_all (length s - at) (drop at s) (le_of_eq (length-drop at s))
 
-returns-2 : tie.Need-returns-2
-returns-2 c = sym (drop_of_length-le c.before.before.args.bytes.now c.before.if1.false)
+returns-2 : tie.Need-returns-else-at-bytes
+returns-2 c = sym (drop_of_length-le c.before.args.bytes.now c.if-at-bytes.false)
 
-pub suffix-spec : {M : Type 1} → statement M
-suffix-spec =
+pub suffix_spec : {M : Type 1} → statement M
+suffix_spec =
     tie.close
     (tie.spec
     sub-result
