@@ -13,53 +13,53 @@ use borrow.Author.Rules.{rules}
 use Rattle.buffer.proofs.words.put_words.Statement.{statement}
 use Rattle.buffer.proofs.words.put_words.Tie as tie
 
-abbrev invariant-loop : tie.invariant-loop
+abbrev invariant-loop : tie.invariant-loop-i
 invariant-loop out₀ src i₀ out i =
     (i ≤ length src) × Pending out₀ (fill src out₀) i (drop i src) out
 
-abbrev decreases-loop : tie.decreases-loop
+abbrev decreases-loop : tie.decreases-loop-i
 decreases-loop out₀ src i₀ out i = length src - i
 
-returns : tie.Need-returns invariant-loop decreases-loop
-returns c = too_short _ _ _ c.if1.true refl
+returns : tie.Need-returns-then-out-src invariant-loop decreases-loop
+returns c = too_short _ _ _ c.if-out-src.true refl
 
-loop-holds : tie.Need-loop-init invariant-loop decreases-loop
+loop-holds : tie.Need-loop-i-init invariant-loop decreases-loop
 loop-holds c = (zero-le, pending_start 0 _ _ (omega arith))
 
-mul-out : tie.Need-overflow-mul-out invariant-loop decreases-loop
+mul-out : tie.Need-offset_bounds-src-i invariant-loop decreases-loop
 mul-out c = search rules
 
-shared-slice-read-out : tie.Need-shared-slice-read-out invariant-loop decreases-loop
+shared-slice-read-out : tie.Need-bounds-src-i invariant-loop decreases-loop
 shared-slice-read-out c = search rules
 
-mul-out-2 : tie.Need-overflow-mul-out-2 invariant-loop decreases-loop
+mul-out-2 : tie.Need-offset_bounds-out-i invariant-loop decreases-loop
 mul-out-2 c = search rules
 
-slice-write-out : tie.Need-slice-write-out invariant-loop decreases-loop
+slice-write-out : tie.Need-bounds-out-i invariant-loop decreases-loop
 slice-write-out c = search rules
 
-add-i : tie.Need-overflow-add-i invariant-loop decreases-loop
+add-i : tie.Need-overflow_add-i invariant-loop decreases-loop
 add-i c = search rules
 
-loop-less : tie.Need-loop-smaller invariant-loop decreases-loop
+loop-less : tie.Need-loop-i-smaller invariant-loop decreases-loop
 loop-less c = search rules
 
-loop-again : tie.Need-loop-preserved invariant-loop decreases-loop
-loop-again c = let l = c.before.before.loop in
+loop-again : tie.Need-loop-i-preserved invariant-loop decreases-loop
+loop-again c = let l = c.before.before.loop-i in
     let s : List ℕ = c.before.before.before.before.args.src.now in
     (omega arith, pending_store _ _ l.i _ (get_or s l.i 0) _ l.out (rw (add-one, drop-cons s l.i 0 (omega arith))) l.invariant.1)
 
-same_length : tie.Need-same-length invariant-loop decreases-loop
+same_length : tie.Need-shape_of-out invariant-loop decreases-loop
 same_length c = search rules
 
-returns-2 : tie.Need-returns-2 invariant-loop decreases-loop
-returns-2 c = let l = c.before.loop in
+returns-2 : tie.Need-returns invariant-loop decreases-loop
+returns-2 c = let l = c.before.loop-i in
     let s : List ℕ = c.before.before.before.args.src.now in
     let done : Pending _ _ l.i [] l.out = rw (drop_of_length-le s {i = l.i} (omega arith)) at l.invariant.1 in
     wrote s _ _ _ (omega arith) refl (pending_end _ _ l.i l.out done)
 
-pub put-words-spec : {M : Type 1} → statement M
-put-words-spec =
+pub put_words_spec : {M : Type 1} → statement M
+put_words_spec =
     tie.close
     (tie.spec
     invariant-loop

@@ -10,34 +10,34 @@ use borrow.Author.Rules.{rules}
 use Rattle.command.proofs.read.check_command.Statement.{statement}
 use Rattle.command.proofs.read.check_command.Tie as tie
 
-suffix-requires : tie.Need-suffix-requires
+suffix-requires : tie.Need-suffix-rest-requires
 suffix-requires c κs = search rules
 
-returns : tie.Need-returns
+returns : tie.Need-returns-then-rest-lt-COMMAND_SIZE
 returns c =
     let a = c.before.before.before.args in
     let s : List ℕ = drop a.at a.stream.now in
-    command_meets a.op a.at s _ (sym (command_short a.op a.at s (rw c.before.suffix.ensures at c.if1.true)))
+    command_meets a.op a.at s _ (sym (command_short a.op a.at s (rw c.before.suffix-rest.ensures at c.if-rest-lt-COMMAND_SIZE.true)))
 
-byte-at-requires : tie.Need-byte-at-requires
+byte-at-requires : tie.Need-byte_at-requires
 byte-at-requires c κs = search rules
 
-returns-2 : tie.Need-returns-2
+returns-2 : tie.Need-returns-then-byte_at-op
 returns-2 c =
     let a = c.before.before.before.before.before.args in
     let s : List ℕ = drop a.at a.stream.now in
-    let e = c.before.byte_at.ensures ∙ ap opcode c.before.before.before.suffix.ensures in
+    let e = c.before.byte_at.ensures ∙ ap opcode c.before.before.before.suffix-rest.ensures in
     command_meets a.op a.at s _
-    (sym (command_other a.op a.at s (rw c.before.before.before.suffix.ensures at c.before.before.if1.false) (λ q. c.if2.true (e ∙ q))))
+    (sym (command_other a.op a.at s (rw c.before.before.before.suffix-rest.ensures at c.before.before.if-rest-lt-COMMAND_SIZE.false) (λ q. c.if-byte_at-op.true (e ∙ q))))
 
-returns-3 : tie.Need-returns-3
+returns-3 : tie.Need-returns
 returns-3 c =
     let a = c.before.before.before.before.before.args in
     let s : List ℕ = drop a.at a.stream.now in
-    let e = c.before.byte_at.ensures ∙ ap opcode c.before.before.before.suffix.ensures in
+    let e = c.before.byte_at.ensures ∙ ap opcode c.before.before.before.suffix-rest.ensures in
     command_meets a.op a.at s _
-    (sym (command_there a.op a.at s (rw c.before.before.before.suffix.ensures at c.before.before.if1.false) (sym e ∙ c.if2.false)))
+    (sym (command_there a.op a.at s (rw c.before.before.before.suffix-rest.ensures at c.before.before.if-rest-lt-COMMAND_SIZE.false) (sym e ∙ c.if-byte_at-op.false)))
 
-pub check-command-spec : {M : Type 1} → statement M
-check-command-spec =
+pub check_command_spec : {M : Type 1} → statement M
+check_command_spec =
     tie.close (tie.spec suffix-requires returns byte-at-requires returns-2 returns-3)

@@ -7,11 +7,11 @@ use Rattle.command.proofs.read.number_at.Tie as tie
 suffix-requires : tie.Need-suffix-requires
 suffix-requires c κs = search rules
 
-u32-at-requires : tie.Need-u32-at-requires
+u32-at-requires : tie.Need-u32_at-requires
 u32-at-requires c κs = search rules
 
 returns : tie.Need-returns
 returns c = cc
 
-pub number-at-spec : {M : Type 1} → statement M
-number-at-spec = tie.close (tie.spec suffix-requires u32-at-requires returns)
+pub number_at_spec : {M : Type 1} → statement M
+number_at_spec = tie.close (tie.spec suffix-requires u32-at-requires returns)

@@ -10,42 +10,42 @@ use Rattle.compare.proofs.Compare.{same_more, same_differ, same_end}
 use Rattle.compare.proofs.same.each_same.Statement.{statement}
 use Rattle.compare.proofs.same.each_same.Tie as tie
 
-abbrev invariant-loop : tie.invariant-loop
+abbrev invariant-loop : tie.invariant-loop-i
 invariant-loop a b i₀ i = (i ≤ length a) × (same a b ≡ same (drop i a) (drop i b))
 
-abbrev decreases-loop : tie.decreases-loop
+abbrev decreases-loop : tie.decreases-loop-i
 decreases-loop a b i₀ i = length a - i
 
-loop-holds : tie.Need-loop-init invariant-loop decreases-loop
+loop-holds : tie.Need-loop-i-init invariant-loop decreases-loop
 loop-holds c = search rules
 
-shared-slice-read-if1 : tie.Need-shared-slice-read-if1 invariant-loop decreases-loop
+shared-slice-read-if1 : tie.Need-bounds-a-i invariant-loop decreases-loop
 shared-slice-read-if1 c = search rules
 
-shared-slice-read-if1-2 : tie.Need-shared-slice-read-if1-2 invariant-loop decreases-loop
+shared-slice-read-if1-2 : tie.Need-bounds-b-i invariant-loop decreases-loop
 shared-slice-read-if1-2 c = search rules
 
-returns : tie.Need-returns invariant-loop decreases-loop
+returns : tie.Need-returns-then-a-i invariant-loop decreases-loop
 returns c =
-    let at-loop = c.before.before.before.before.loop in
-    sym (at-loop.invariant.1 ∙ same_differ _ _ at-loop.i (omega arith) (omega arith) c.if1.true)
+    let at-loop = c.before.before.before.before.loop-i in
+    sym (at-loop.invariant.1 ∙ same_differ _ _ at-loop.i (omega arith) (omega arith) c.if-a-i.true)
 
-add-i : tie.Need-overflow-add-i invariant-loop decreases-loop
+add-i : tie.Need-overflow_add-i invariant-loop decreases-loop
 add-i c = search rules
 
-loop-less : tie.Need-loop-smaller invariant-loop decreases-loop
+loop-less : tie.Need-loop-i-smaller invariant-loop decreases-loop
 loop-less c = search rules
 
-loop-again : tie.Need-loop-preserved invariant-loop decreases-loop
+loop-again : tie.Need-loop-i-preserved invariant-loop decreases-loop
 loop-again c =
-    let at-loop = c.before.before.before.before.loop in
-    (omega arith, at-loop.invariant.1 ∙ same_more _ _ at-loop.i (omega arith) (omega arith) c.if1.false)
+    let at-loop = c.before.before.before.before.loop-i in
+    (omega arith, at-loop.invariant.1 ∙ same_more _ _ at-loop.i (omega arith) (omega arith) c.if-a-i.false)
 
-returns-2 : tie.Need-returns-2 invariant-loop decreases-loop
-returns-2 c = sym (c.before.loop.invariant.1 ∙ same_end _ _ c.before.loop.i (omega arith) (omega arith))
+returns-2 : tie.Need-returns invariant-loop decreases-loop
+returns-2 c = sym (c.before.loop-i.invariant.1 ∙ same_end _ _ c.before.loop-i.i (omega arith) (omega arith))
 
-pub each-same-spec : {M : Type 1} → statement M
-each-same-spec =
+pub each_same_spec : {M : Type 1} → statement M
+each_same_spec =
     tie.close
     (tie.spec
     invariant-loop
