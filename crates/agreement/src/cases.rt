@@ -5,7 +5,7 @@ ghost use Rattle.std.specs.Prelude.{◌<◌};
 use buffer::Outcome;
 
 // What came of a case.
-#[derive(Drop)]
+#[derive(Clone, Copy)]
 pub(crate) enum Case {
     Agrees,
     Differs,
@@ -16,7 +16,7 @@ pub(crate) enum Case {
 }
 
 // What stands where a length is due.
-#[derive(Drop)]
+#[derive(Clone, Copy)]
 enum Length {
     Is(usize),
     Missing,

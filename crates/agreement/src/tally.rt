@@ -1,7 +1,7 @@
 // How many cases there are, and how many agree.
 use crate::cases::{Case, compare_next};
 
-#[derive(Drop)]
+#[derive(Clone, Copy)]
 pub(crate) struct Tally {
     pub cases: u64,
     pub agree: u64,

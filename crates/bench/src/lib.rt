@@ -22,14 +22,14 @@ pub const TOO_MANY_SAMPLES: u8 = 20;
 pub const BAD_RUN: u8 = 24;
 
 // The word before the next sample, if there was one.
-#[derive(Drop)]
+#[derive(Clone, Copy)]
 pub enum Earlier {
     Nothing,
     Word(u32),
 }
 
 // A run between two calls. A fresh one is in state 0 with count 0, has no earlier word and has not ended.
-#[derive(Drop)]
+#[derive(Clone, Copy)]
 pub struct Run {
     pub state: u32,
     pub count: u32,
@@ -38,7 +38,7 @@ pub struct Run {
 }
 
 // What the call answers.
-#[derive(Drop)]
+#[derive(Clone, Copy)]
 pub enum Benched {
     // How many words were written, and the run to hand on.
     Done(usize, Run),
@@ -47,7 +47,7 @@ pub enum Benched {
 }
 
 // Where a run stands after a sample.
-#[derive(Drop)]
+#[derive(Clone, Copy)]
 pub struct Moved {
     pub state: u32,
     pub count: u32,
@@ -56,7 +56,7 @@ pub struct Moved {
 
 // What the walk over the samples leaves: how many were taken, and where the run stands after the last one that was
 // looked at.
-#[derive(Drop)]
+#[derive(Clone, Copy)]
 pub struct Walked {
     pub taken: usize,
     pub state: u32,

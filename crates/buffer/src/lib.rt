@@ -15,7 +15,7 @@ pub use words::put_words;
 pub const OUTPUT_TOO_SHORT: u8 = 12;
 
 // What a check finds.
-#[derive(Drop)]
+#[derive(Clone, Copy)]
 pub enum Verdict {
     Accepted,
     // The refusal's number and its place.
@@ -23,7 +23,7 @@ pub enum Verdict {
 }
 
 // What a call that writes answers.
-#[derive(Drop)]
+#[derive(Clone, Copy)]
 pub enum Outcome {
     // How many bytes were written.
     Done(usize),

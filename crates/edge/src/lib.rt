@@ -16,7 +16,7 @@ pub use model::run_edge;
 pub use rule::edge_hit;
 
 // A description: the lines on which a rise, a fall, or neither of the two is asked for.
-#[derive(Drop)]
+#[derive(Clone, Copy)]
 pub struct Edge {
     pub rise: u32,
     pub fall: u32,
@@ -24,7 +24,7 @@ pub struct Edge {
 }
 
 // What a line may do from the earlier to the later sample.
-#[derive(Drop)]
+#[derive(Clone, Copy)]
 enum Event {
     Rise,
     Fall,
@@ -32,7 +32,7 @@ enum Event {
 }
 
 // What reading chain words gives.
-#[derive(Drop)]
+#[derive(Clone, Copy)]
 pub enum ReadEdge {
     // Rise, fall and neither of the accepted description that writes the words.
     Edge(u32, u32, u32),

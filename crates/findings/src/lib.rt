@@ -12,7 +12,7 @@ pub use record::record_of;
 pub use walk::{at_section, next_line, start, step_in};
 
 // What a line says of a slot.
-#[derive(Drop)]
+#[derive(Clone, Copy)]
 pub enum Finding {
     New,
     Gone,
@@ -22,7 +22,7 @@ pub enum Finding {
 }
 
 // A line of the notice. A section is known by its number.
-#[derive(Drop)]
+#[derive(Clone, Copy)]
 pub struct Line {
     pub section: usize,
     pub slot: u8,
@@ -30,7 +30,7 @@ pub struct Line {
 }
 
 // Where a walk over the lines stands.
-#[derive(Drop)]
+#[derive(Clone, Copy)]
 pub struct Cursor {
     // The slot that is looked at next, and whether its line NAME has been given.
     pub section: usize,
@@ -42,7 +42,7 @@ pub struct Cursor {
 }
 
 // What the call `next_line` answers.
-#[derive(Drop)]
+#[derive(Clone, Copy)]
 pub enum Step {
     // No line is left.
     End,

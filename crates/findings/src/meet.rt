@@ -7,7 +7,7 @@ ghost use Rattle.findings.specs.Walk.{change_lines, left_lines, met_lines};
 use crate::Finding;
 
 // No line is left; NAME; or a line behind which the slot has no other.
-#[derive(Drop)]
+#[derive(Clone, Copy)]
 pub(crate) enum Met {
     Nothing,
     Label,

@@ -31,7 +31,7 @@ pub const SECTIONS: usize = 5;
 pub const SENDING_ORDER: [usize; SECTIONS] = [STATES, TERMS, RANGES, EDGES, SUMS];
 
 // The numbers of a section.
-#[derive(Drop)]
+#[derive(Clone, Copy)]
 pub struct Row {
     // The four letters of the notice, and the one of the labels that the reader gives.
     pub name: [u8; 4],
@@ -48,7 +48,7 @@ pub struct Row {
 }
 
 // What an address starts.
-#[derive(Drop)]
+#[derive(Clone, Copy)]
 pub struct Place {
     pub section: usize,
     pub slot: u8,

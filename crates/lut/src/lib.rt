@@ -8,7 +8,7 @@ ghost use Rattle.lut.specs.Table.{answer_at};
 ghost use Rattle.lut.specs.Answer.{hit_or_miss};
 
 // What the model says.
-#[derive(Drop)]
+#[derive(Clone, Copy)]
 pub enum Answer {
     Hit,
     Miss,
@@ -17,7 +17,7 @@ pub enum Answer {
 }
 
 // What a description is asked with, whatever its kind.
-#[derive(Drop)]
+#[derive(Clone, Copy)]
 pub enum Input {
     Nothing,
     Sample(u32),
@@ -28,7 +28,7 @@ pub enum Input {
 }
 
 // What tells two descriptions of one kind apart.
-#[derive(Drop)]
+#[derive(Clone, Copy)]
 pub enum Telling {
     // They hit alike on every input.
     Alike,

@@ -28,7 +28,7 @@ pub fn longest_notice() -> usize
 }
 
 // What the call `notice` answers.
-#[derive(Drop)]
+#[derive(Clone, Copy)]
 pub enum Noticed {
     // The length written.
     Done(usize),

@@ -13,7 +13,7 @@ ghost use Rattle.page.specs.Page.{head_text, is_shown, answer_of, left_by, PageG
 use notice::Noticed;
 
 // What the call answers.
-#[derive(Drop)]
+#[derive(Clone, Copy)]
 pub enum Paged {
     // How many bytes were written.
     Done(usize),

@@ -19,7 +19,7 @@ pub const OPERATIONS: usize = 11;
 
 // A sum's record: its slot, its label, and its operations in the sheet's order [S6, L5]. Why it is the record and not
 // the description alone: docs/DECISIONS.md [K7].
-#[derive(Drop)]
+#[derive(Clone, Copy)]
 pub struct Sum {
     pub slot: u8,
     pub label: [u8; LABEL_SIZE],

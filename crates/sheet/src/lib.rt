@@ -26,7 +26,7 @@ pub fn longest_sheet() -> usize
 }
 
 // What is found of a sheet: its refusal, and where the part of each section lies. All 0 where there is nothing to say.
-#[derive(Drop)]
+#[derive(Clone, Copy)]
 pub struct Judged {
     // The number of the sheet's refusal, 0 if it is accepted, and its place.
     pub refusal: u8,
@@ -37,7 +37,7 @@ pub struct Judged {
 }
 
 // Where a section's part lies in the sheet: the offset of its first byte and its length, both 0 where the part is empty.
-#[derive(Drop)]
+#[derive(Clone, Copy)]
 pub struct Span {
     // The number of the sheet's refusal, 0 if it is accepted.
     pub refusal: u8,

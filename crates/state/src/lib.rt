@@ -20,7 +20,7 @@ pub const FLAG_LAST: u8 = 1;
 
 // A description: how often the hit sum must match, the state that the else sum leads to, and a byte for each flag: stop,
 // clear and start of either timer, trigger, last.
-#[derive(Drop)]
+#[derive(Clone, Copy)]
 pub struct State {
     pub number: u32,
     pub branch: u8,
@@ -28,7 +28,7 @@ pub struct State {
 }
 
 // The state of chain words; where none writes the words, ok is false (refusal 16) and the fields are 0.
-#[derive(Drop)]
+#[derive(Clone, Copy)]
 pub struct ReadState {
     pub ok: bool,
     pub state: State,

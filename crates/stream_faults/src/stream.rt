@@ -8,7 +8,7 @@ const SELECT: u8 = 0x9e;
 const COMMAND_SIZE: usize = 5;
 
 // The last select before a place, and how many words came behind it.
-#[derive(Drop)]
+#[derive(Clone, Copy)]
 struct Chain {
     is_there: bool,
     address: u32,

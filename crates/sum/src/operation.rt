@@ -20,7 +20,7 @@ pub(crate) const FINAL: [u16; 10] = [
 ];
 
 // An operation's words, by the stage that it is set for.
-#[derive(Drop)]
+#[derive(Clone, Copy)]
 pub(crate) struct Operation {
     pub pair: u32,
     pub mid: u32,

@@ -15,7 +15,7 @@ pub use numbers::told_of;
 
 // What tells two sums apart, in numbers: 1 and a pattern of the sources, 0 where none does, 10 where a byte is no
 // operation code or the bytes are not eleven.
-#[derive(Drop)]
+#[derive(Clone, Copy)]
 pub struct Told {
     pub number: u8,
     pub sources: u16,

@@ -3,7 +3,7 @@ use mathlib.Core.Path.{◌≡◌, refl, ap, ap₂}
 use mathlib.Core.Bool.{true}
 use mathlib.Core.List.{List, [], ◌∷◌}
 use mathlib.Core.Logic.{◌↔◌}
-use Prim.Native.Nat.{ℕ, ◌^◌, ◌<◌}
+use Prim.Native.Nat.{ℕ, ◌^◌}
 use native.Mathlib.Nat.{zero-div}
 use lib.Dec.{lit<}
 use lib.ListN.{length}
@@ -27,7 +27,6 @@ use Rattle.term.specs.Back.{read_term, read_number}
 use Rattle.term.specs.Telling.{term_telling}
 use Rattle.term.specs.declared.Pattern.{Pattern}
 use Rattle.term.specs.declared.ReadTerm.{ReadTerm}
-use Rattle.term.specs.declared.ReadTerm.TheVariants as ReadTerm
 use Rattle.term.proofs.Hits.{term_words_length, term_hits}
 use Rattle.term.proofs.ReadingBack.{read_words, read_means, read_numbered}
 use Rattle.term.proofs.SamePattern.{words_alike, alike_words, telling_law}

@@ -10,14 +10,12 @@ use lib.ListN.{length, get_or}
 use Rattle.peek.specs.Bytes.{Bytes}
 use Rattle.peek.specs.Fields.{field_of, field_bytes, Writes}
 use Rattle.peek.proofs.Numbers.{u32_small}
-use Rattle.peek.proofs.FieldLaws.{fields_bytes, fields_read, fields_written, fit₂}
+use Rattle.peek.proofs.FieldLaws.{fields_bytes, fields_read, fit₂}
 use Rattle.term.specs.declared.ReadTerm.{ReadTerm}
-use Rattle.term.specs.declared.ReadTerm.TheVariants as ReadTerm
-use Rattle.term.specs.declared.Pattern.{Pattern}
 use Rattle.term.specs.Rule.{Accepted}
 use Rattle.term.specs.Words.{term_words}
 use Rattle.term.specs.Back.{read_term, ReadMeans}
-use Rattle.term.specs.Description.{size, from_bytes, to_bytes, fault, words, bytes_read, back, cut}
+use Rattle.term.specs.Description.{size, from_bytes, fault, words, bytes_read, back, cut}
 use Rattle.term.proofs.Hits.{term_words_length, term_words_fit}
 use Rattle.term.proofs.ReadingBack.{read_means}
 use Rattle.term.proofs.Theorems.{words_read_back}

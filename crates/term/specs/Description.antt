@@ -5,7 +5,6 @@ use Rattle.lut.specs.declared.Telling.{Telling}
 use Rattle.peek.specs.Fields.{field_of, field_bytes}
 use Rattle.term.specs.declared.Pattern.{Pattern}
 use Rattle.term.specs.declared.ReadTerm.{ReadTerm}
-use Rattle.term.specs.declared.ReadTerm.TheVariants as ReadTerm
 use Rattle.term.specs.Words.{words_of}
 use Rattle.term.specs.Back.{read_term}
 use Rattle.term.specs.Telling.{term_telling}

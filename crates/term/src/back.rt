@@ -8,7 +8,7 @@ ghost use Rattle.term.specs.Back.{nibble_target, nibble_mask, table_part, word_p
 use super::ReadTerm;
 
 // Which of a pattern's two numbers is decoded.
-#[derive(Drop)]
+#[derive(Clone, Copy)]
 pub(crate) enum Part {
     Target,
     Mask,

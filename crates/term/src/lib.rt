@@ -16,14 +16,14 @@ pub use model::run_term;
 pub use rule::term_hit;
 
 // A description, which asks for the target on all masked lines.
-#[derive(Drop)]
+#[derive(Clone, Copy)]
 pub struct Pattern {
     pub target: u32,
     pub mask: u32,
 }
 
 // What chain words are read as.
-#[derive(Drop)]
+#[derive(Clone, Copy)]
 pub enum ReadTerm {
     // A target, cut to the mask, and the mask.
     Pattern(u32, u32),

@@ -16,7 +16,7 @@ pub use put::{
 
 // The sections, for what is said of each: a match on them has no default, so that a new section has its words or is
 // refused by the compiler.
-#[derive(Drop)]
+#[derive(Clone, Copy)]
 pub enum Section {
     Terms,
     Ranges,

@@ -12,7 +12,7 @@ mod shown;
 mod work;
 
 // What the program is asked to do.
-#[derive(Drop)]
+#[derive(Clone, Copy)]
 pub enum Verb {
     Check,
     // The second file stands for the section's number, in decimal.
@@ -31,7 +31,7 @@ pub enum Verb {
 }
 
 // What came of it.
-#[derive(Drop)]
+#[derive(Clone, Copy)]
 pub enum Came {
     // So many bytes for standard output.
     Done(usize),
@@ -48,7 +48,7 @@ pub enum Came {
 }
 
 // How the call ended: the exit status, and how many bytes stand at the start of each room.
-#[derive(Drop)]
+#[derive(Clone, Copy)]
 pub struct Ended {
     pub status: u8,
     pub out: usize,

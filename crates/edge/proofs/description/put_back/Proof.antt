@@ -7,31 +7,31 @@ use borrow.Author.Rules.{rules}
 use Rattle.edge.proofs.description.put_back.Statement.{statement}
 use Rattle.edge.proofs.description.put_back.Tie as tie
 
-read-edge-requires : tie.Need-read-edge-requires
+read-edge-requires : tie.Need-read_edge-requires
 read-edge-requires c κs = search rules
 
-enum-known-rise : tie.Need-enum-known-rise
+enum-known-rise : tie.Need-enum_known-rise
 enum-known-rise c = search rules
 
-to-bytes-requires : tie.Need-to-bytes-requires
+to-bytes-requires : tie.Need-to_bytes-requires
 to-bytes-requires c κs = search rules
 
-enum_told : tie.Need-enum-told
+enum_told : tie.Need-enum_told-1
 enum_told c = search rules
 
-same_length : tie.Need-same-length
+same_length : tie.Need-shape_of-out
 same_length c = search rules
 
-returns : tie.Need-returns
+returns : tie.Need-returns-in-Edge
 unfolding back
-returns c = delivers (told read_edge bytes_read _ _ _ _ refl c.before.before.before.before.before.before.before.read-edge.ensures.0 c.before.before.before.before.before.rise.given.1) c.before.before.to-bytes.ensures
+returns c = delivers (told read_edge bytes_read _ _ _ _ refl c.before.before.before.before.before.read_edge.ensures.0 c.before.before.before.before.in-Edge.is) c.before.before.to_bytes.ensures
 
-returns-2 : tie.Need-returns-2
+returns-2 : tie.Need-returns-in-Refused
 unfolding back
-returns-2 c = nothing _ _ (told read_edge bytes_read _ _ _ _ refl c.before.before.read-edge.ensures.0 c.enum_told.given.1)
+returns-2 c = nothing _ _ (told read_edge bytes_read _ _ _ _ refl c.before.read_edge.ensures.0 c.in-Refused.is)
 
-pub put-back-spec : {M : Type 1} → statement M
-put-back-spec =
+pub put_back_spec : {M : Type 1} → statement M
+put_back_spec =
     tie.close
     (tie.spec
     read-edge-requires

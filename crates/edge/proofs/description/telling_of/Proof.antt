@@ -4,19 +4,19 @@ use borrow.Author.Rules.{rules}
 use Rattle.edge.proofs.description.telling_of.Statement.{statement}
 use Rattle.edge.proofs.description.telling_of.Tie as tie
 
-from-bytes-requires : tie.Need-from-bytes-requires
+from-bytes-requires : tie.Need-from_bytes-requires
 from-bytes-requires c κs = search rules
 
-from-bytes-requires-2 : tie.Need-from-bytes-requires-2
+from-bytes-requires-2 : tie.Need-from_bytes-requires-2
 from-bytes-requires-2 c κs = search rules
 
-edge-telling-requires : tie.Need-edge-telling-requires
+edge-telling-requires : tie.Need-edge_telling-requires
 edge-telling-requires c κs = search rules
 
 returns : tie.Need-returns
 unfolding description.telling
-returns c = rw (c.before.before.from_bytes.ensures, c.before.from-bytes2.ensures) at c.edge-telling.ensures
+returns c = rw (c.before.before.from_bytes.ensures, c.before.from_bytes-2.ensures) at c.edge_telling.ensures
 
-pub telling-of-spec : {M : Type 1} → statement M
-telling-of-spec =
+pub telling_of_spec : {M : Type 1} → statement M
+telling_of_spec =
     tie.close (tie.spec from-bytes-requires from-bytes-requires-2 edge-telling-requires returns)

@@ -8,5 +8,5 @@ returns : tie.Need-returns
 returns c =
     let a = c.args in accepted_bits 32 a.rise a.fall a.neither c.ranges.rise.fits c.ranges.fall.fits c.ranges.neither.fits
 
-pub edge-accepted-spec : {M : Type 1} → statement M
-edge-accepted-spec = tie.close (tie.spec returns)
+pub edge_accepted_spec : {M : Type 1} → statement M
+edge_accepted_spec = tie.close (tie.spec returns)

@@ -9,5 +9,5 @@ returns : tie.Need-returns
 unfolding without
 returns c = refl
 
-pub lines-without-spec : {M : Type 1} → statement M
-lines-without-spec = tie.close (tie.spec returns)
+pub lines_without_spec : {M : Type 1} → statement M
+lines_without_spec = tie.close (tie.spec returns)

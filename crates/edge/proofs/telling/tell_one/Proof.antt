@@ -19,68 +19,62 @@ abbrev left1 : Edge → Edge → Telling
 left1 a b = tell_by Fall a b (left2 a b)
 
 -- past the tests that found nothing
-past1 : (c : tie.Else1) → let a = c.before.before.args in tell_one a.a a.b ≡ left1 a.a a.b
+past1 : (c : tie.Else-rise-ne0) → let a = c.before.before.args in tell_one a.a a.b ≡ left1 a.a a.b
 past1 c =
-    let w = c.before in
-    let a = w.before.args in
-    tell_on Rise a.a a.b w.lines-without.result (left1 a.a a.b) w.lines-without.ensures c.if1.false
+    let a = c.before.before.args in
+    tell_on Rise a.a a.b c.before.lines_without-rise.result (left1 a.a a.b) c.before.lines_without-rise.ensures c.if-rise-ne0.false
 
-past2 : (c : tie.Else2) → let a = c.before.before.before.before.args in tell_one a.a a.b ≡ left2 a.a a.b
+past2 : (c : tie.Else-fall-ne0) → let a = c.before.before.before.before.args in tell_one a.a a.b ≡ left2 a.a a.b
 past2 c =
-    let w = c.before in
-    let a = w.before.before.before.args in
-    past1 w.before
-    ∙ tell_on Fall a.a a.b w.lines-without2.result (left2 a.a a.b) w.lines-without2.ensures c.if2.false
+    let a = c.before.before.before.before.args in
+    past1 c.before.before
+    ∙ tell_on Fall a.a a.b c.before.lines_without-fall.result (left2 a.a a.b) c.before.lines_without-fall.ensures c.if-fall-ne0.false
 
-lines-without-requires : tie.Need-lines-without-requires
+lines-without-requires : tie.Need-lines_without-rise-requires
 lines-without-requires c κs = search rules
 
-show-event-requires : tie.Need-show-event-requires
+show-event-requires : tie.Need-show_event-requires
 show-event-requires c κs = search rules
 
-returns : tie.Need-returns
+returns : tie.Need-returns-then-rise-ne0
 returns c =
-    let w = c.before.before in
-    let a = w.before.args in
-    c.show-event.ensures
-    ∙ sym (tell_here Rise a.a a.b w.lines-without.result (left1 a.a a.b) w.lines-without.ensures c.before.if1.true)
+    let a = c.before.before.before.args in
+    c.show_event.ensures
+    ∙ sym (tell_here Rise a.a a.b c.before.before.lines_without-rise.result (left1 a.a a.b) c.before.before.lines_without-rise.ensures c.before.if-rise-ne0.true)
 
-lines-without-requires-2 : tie.Need-lines-without-requires-2
+lines-without-requires-2 : tie.Need-lines_without-fall-requires
 lines-without-requires-2 c κs = search rules
 
-show-event-requires-2 : tie.Need-show-event-requires-2
+show-event-requires-2 : tie.Need-show_event-requires-then-fall-ne0
 show-event-requires-2 c κs = search rules
 
-returns-2 : tie.Need-returns-2
+returns-2 : tie.Need-returns-then-fall-ne0
 returns-2 c =
-    let w = c.before.before in
-    let a = w.before.before.before.args in
-    c.show-event2.ensures
+    let a = c.before.before.before.before.before.args in
+    c.show_event-then-fall-ne0.ensures
     ∙ sym
-    (past1 w.before
-    ∙ tell_here Fall a.a a.b w.lines-without2.result (left2 a.a a.b) w.lines-without2.ensures c.before.if2.true)
+    (past1 c.before.before.before
+    ∙ tell_here Fall a.a a.b c.before.before.lines_without-fall.result (left2 a.a a.b) c.before.before.lines_without-fall.ensures c.before.if-fall-ne0.true)
 
-lines-without-requires-3 : tie.Need-lines-without-requires-3
+lines-without-requires-3 : tie.Need-lines_without-neither-requires
 lines-without-requires-3 c κs = search rules
 
-show-event-requires-3 : tie.Need-show-event-requires-3
+show-event-requires-3 : tie.Need-show_event-requires-then-neither-ne0
 show-event-requires-3 c κs = search rules
 
-returns-3 : tie.Need-returns-3
+returns-3 : tie.Need-returns-then-neither-ne0
 returns-3 c =
-    let w = c.before.before in
-    let a = w.before.before.before.before.before.args in
-    c.show-event3.ensures
-    ∙ sym (past2 w.before ∙ tell_here Neither a.a a.b w.lines-without3.result Alike w.lines-without3.ensures c.before.if3.true)
+    let a = c.before.before.before.before.before.before.before.args in
+    c.show_event-then-neither-ne0.ensures
+    ∙ sym (past2 c.before.before.before ∙ tell_here Neither a.a a.b c.before.before.lines_without-neither.result Alike c.before.before.lines_without-neither.ensures c.before.if-neither-ne0.true)
 
-returns-4 : tie.Need-returns-4
+returns-4 : tie.Need-returns
 returns-4 c =
-    let w = c.before in
-    let a = w.before.before.before.before.before.args in
-    sym (past2 w.before ∙ tell_on Neither a.a a.b w.lines-without3.result Alike w.lines-without3.ensures c.if3.false)
+    let a = c.before.before.before.before.before.before.args in
+    sym (past2 c.before.before ∙ tell_on Neither a.a a.b c.before.lines_without-neither.result Alike c.before.lines_without-neither.ensures c.if-neither-ne0.false)
 
-pub tell-one-spec : {M : Type 1} → statement M
-tell-one-spec =
+pub tell_one_spec : {M : Type 1} → statement M
+tell_one_spec =
     tie.close
     (tie.spec
     lines-without-requires

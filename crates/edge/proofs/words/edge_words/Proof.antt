@@ -12,40 +12,40 @@ use Rattle.edge.proofs.WordLaws.{words_length}
 use Rattle.edge.proofs.words.edge_words.Statement.{statement}
 use Rattle.edge.proofs.words.edge_words.Tie as tie
 
-abbrev invariant-loop : tie.invariant-loop
+abbrev invariant-loop : tie.invariant-loop-i
 invariant-loop rise fall neither words₀ i₀ words i =
     (i ≤ 8) × (length words ≡ 8) × (take i words ≡ take i (edge_words rise fall neither))
 
-abbrev decreases-loop : tie.decreases-loop
+abbrev decreases-loop : tie.decreases-loop-i
 decreases-loop rise fall neither words₀ i₀ words i = 8 - i
 
-loop-holds : tie.Need-loop-init invariant-loop decreases-loop
+loop-holds : tie.Need-loop-i-init invariant-loop decreases-loop
 loop-holds c = search rules
 
-sub-word-at : tie.Need-overflow-sub-word-at invariant-loop decreases-loop
+sub-word-at : tie.Need-overflow_sub-i invariant-loop decreases-loop
 sub-word-at c = search rules
 
-cast-word-at : tie.Need-overflow-cast-word-at invariant-loop decreases-loop
+cast-word-at : tie.Need-overflow_cast-i invariant-loop decreases-loop
 cast-word-at c = search rules
 
-word-at-requires : tie.Need-word-at-requires invariant-loop decreases-loop
+word-at-requires : tie.Need-word_at-requires invariant-loop decreases-loop
 word-at-requires c κs = search rules
 
-mul_words : tie.Need-overflow-mul-words invariant-loop decreases-loop
+mul_words : tie.Need-offset_bounds-words-i invariant-loop decreases-loop
 mul_words c = search rules
 
-array-write-words : tie.Need-array-write-words invariant-loop decreases-loop
+array-write-words : tie.Need-bounds-words-i invariant-loop decreases-loop
 array-write-words c = search rules
 
-add-i : tie.Need-overflow-add-i invariant-loop decreases-loop
+add-i : tie.Need-overflow_step-i invariant-loop decreases-loop
 add-i c = search rules
 
-loop-less : tie.Need-loop-smaller invariant-loop decreases-loop
+loop-less : tie.Need-loop-i-smaller invariant-loop decreases-loop
 loop-less c = search rules
 
-loop-again : tie.Need-loop-preserved invariant-loop decreases-loop
+loop-again : tie.Need-loop-i-preserved invariant-loop decreases-loop
 loop-again c =
-    let l = c.before.before.loop in
+    let l = c.before.before.loop-i in
     let a = c.before.before.before.args in
     let w = edge_words a.rise a.fall a.neither in
     let n = words_length a.rise a.fall a.neither in (
@@ -58,14 +58,14 @@ loop-again c =
 
 returns : tie.Need-returns invariant-loop decreases-loop
 returns c =
-    let l = c.before.loop in
+    let l = c.before.loop-i in
     let a = c.before.before.args in
     let q : l.i ≡ 8 = omega arith in
     fill_done l.words (edge_words a.rise a.fall a.neither) 8 l.invariant.1 (words_length a.rise a.fall a.neither)
     (rw q at l.invariant.2)
 
-pub edge-words-spec : {M : Type 1} → statement M
-edge-words-spec =
+pub edge_words_spec : {M : Type 1} → statement M
+edge_words_spec =
     tie.close
     (tie.spec
     invariant-loop

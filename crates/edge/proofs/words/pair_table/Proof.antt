@@ -7,40 +7,40 @@ use Rattle.edge.proofs.Pair.{upper_line, pair_lt}
 use Rattle.edge.proofs.words.pair_table.Statement.{statement}
 use Rattle.edge.proofs.words.pair_table.Tie as tie
 
-mul-r : tie.Need-overflow-mul-r
+mul-r : tie.Need-overflow_mul-r
 mul-r c = search rules
 
-shr-r : tie.Need-overflow-shr-r
+shr-r : tie.Need-overflow_shr-r
 shr-r c = search rules
 
-mul-f : tie.Need-overflow-mul-f
+mul-f : tie.Need-overflow_mul-f
 mul-f c = search rules
 
-shr-f : tie.Need-overflow-shr-f
+shr-f : tie.Need-overflow_shr-f
 shr-f c = search rules
 
-mul-n : tie.Need-overflow-mul-n
+mul-n : tie.Need-overflow_mul-n
 mul-n c = search rules
 
-shr-n : tie.Need-overflow-shr-n
+shr-n : tie.Need-overflow_shr-n
 shr-n c = search rules
 
-mul-upper : tie.Need-overflow-mul-upper
+mul-upper : tie.Need-overflow_mul-upper
 mul-upper c = search rules
 
-mul-upper-2 : tie.Need-overflow-mul-upper-2
+mul-upper-2 : tie.Need-overflow_mul-upper-2
 mul-upper-2 c = search rules
 
-mul-upper-3 : tie.Need-overflow-mul-upper-3
+mul-upper-3 : tie.Need-overflow_mul-upper-3
 mul-upper-3 c = search rules
 
-mul-lower : tie.Need-overflow-mul-lower
+mul-lower : tie.Need-overflow_mul-lower
 mul-lower c = search rules
 
-mul-lower-2 : tie.Need-overflow-mul-lower-2
+mul-lower-2 : tie.Need-overflow_mul-lower-2
 mul-lower-2 c = search rules
 
-mul-lower-3 : tie.Need-overflow-mul-lower-3
+mul-lower-3 : tie.Need-overflow_mul-lower-3
 mul-lower-3 c = search rules
 
 returns : tie.Need-returns
@@ -50,8 +50,8 @@ returns c =
     rw (upper_line a.rise a.pair, upper_line a.fall a.pair, upper_line a.neither a.pair)
     (refl, pair_lt a.pair a.rise a.fall a.neither)
 
-pub pair-table-spec : {M : Type 1} → statement M
-pair-table-spec =
+pub pair_table_spec : {M : Type 1} → statement M
+pair_table_spec =
     tie.close
     (tie.spec
     mul-r

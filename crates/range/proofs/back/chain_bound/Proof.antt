@@ -7,13 +7,13 @@ use Rattle.range.proofs.Carry.{not_low, gathered_lt}
 use Rattle.range.proofs.back.chain_bound.Statement.{statement}
 use Rattle.range.proofs.back.chain_bound.Tie as tie
 
-lines-with-requires : tie.Need-lines-with-requires
+lines-with-requires : tie.Need-lines_with-requires
 lines-with-requires c κs = search rules
 
-gather-requires : tie.Need-gather-requires
+gather-requires : tie.Need-gather-value-requires
 gather-requires c κs = search rules
 
-low-bits-requires : tie.Need-low-bits-requires
+low-bits-requires : tie.Need-low_bits-requires
 low-bits-requires c κs = search rules
 
 -- the greatest number of k bits, and the gathered value, which is none greater
@@ -25,19 +25,17 @@ top x mask hm e =
 within : (x y spread mask : ℕ) → mask < 2 ^ 32 → x ≡ 0xFFFFFFFF % 2 ^ ones mask → y ≡ gathered 32 spread mask → y ≤ x
 within x y spread mask hm ex ey = let t = top x mask hm ex in omega (arith, gathered_lt spread mask hm)
 
-sub-result : tie.Need-overflow-sub-result
+sub-result : tie.Need-overflow_sub-result
 sub-result c =
-    let start = c.before.before.before.before in
-    within c.low-bits.result c.before.gather.result c.before.before.lines-with.result start.args.mask start.ranges.mask.fits
-    c.low-bits.ensures c.before.gather.ensures
+    within c.low_bits.result c.before.gather-value.result c.before.before.lines_with.result c.before.before.before.before.args.mask c.before.before.before.before.ranges.mask.fits
+    c.low_bits.ensures c.before.gather-value.ensures
 
 returns : tie.Need-returns
 unfolding chain_bound
 returns c =
-    let start = c.before.before.before.before in
-    ap₂ (λ (x y : ℕ). x - y) (top c.low-bits.result start.args.mask start.ranges.mask.fits c.low-bits.ensures)
-    (c.before.gather.ensures ∙ ap (λ (s : ℕ). gathered 32 s start.args.mask) c.before.before.lines-with.ensures)
+    ap₂ (λ (x y : ℕ). x - y) (top c.low_bits.result c.before.before.before.before.args.mask c.before.before.before.before.ranges.mask.fits c.low_bits.ensures)
+    (c.before.gather-value.ensures ∙ ap (λ (s : ℕ). gathered 32 s c.before.before.before.before.args.mask) c.before.before.lines_with.ensures)
 
-pub chain-bound-spec : {M : Type 1} → statement M
-chain-bound-spec =
+pub chain_bound_spec : {M : Type 1} → statement M
+chain_bound_spec =
     tie.close (tie.spec lines-with-requires gather-requires low-bits-requires sub-result returns)

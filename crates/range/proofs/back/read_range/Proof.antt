@@ -33,90 +33,87 @@ other : (words : List ℕ) → (length words ≡ 32 → ⊥) → ReadRange.Refus
 unfolding read_range
 other words n = rw (ne_eqb (length words) 32 n)
 
-returns : tie.Need-returns
+returns : tie.Need-returns-then-words-ne32
 returns c =
     let words = c.before.before.args.words.now in
-    read_meets words ReadRange.Refused (other words c.if1.true)
+    read_meets words ReadRange.Refused (other words c.if-words-ne32.true)
 
 first_half_law : (words : List ℕ) → length words ≡ 32 → length (take 16 words) ≡ 16
 first_half_law words h = length-take-le 16 words (omega arith)
 
-slice-aggregate-lines-with : tie.Need-slice-aggregate-lines-with
-slice-aggregate-lines-with c = sym (first_half_law c.before.before.before.args.words.now c.before.if1.false)
+slice-aggregate-lines-with : tie.Need-slice_bounds-lines_with-end
+slice-aggregate-lines-with c = sym (first_half_law c.before.before.args.words.now c.if-words-ne32.false)
 
-lines-with-requires : tie.Need-lines-with-requires
-lines-with-requires c κs = first_half_law c.before.before.before.args.words.now c.before.if1.false
+lines-with-requires : tie.Need-lines_with-mask-requires
+lines-with-requires c κs = first_half_law c.before.before.args.words.now c.if-words-ne32.false
 
-sub-mask : tie.Need-overflow-sub-mask
+sub-mask : tie.Need-overflow_sub-mask
 sub-mask c = search rules
 
-slice-aggregate-chain-bound : tie.Need-slice-aggregate-chain-bound
-slice-aggregate-chain-bound c = sym (first_half_law c.before.before.before.before.before.args.words.now c.before.before.before.if1.false)
+slice-aggregate-chain-bound : tie.Need-slice_bounds-chain_bound-end
+slice-aggregate-chain-bound c = sym (first_half_law c.before.before.before.args.words.now c.before.if-words-ne32.false)
 
-chain-bound-requires : tie.Need-chain-bound-requires
-chain-bound-requires c κs = first_half_law c.before.before.before.before.before.args.words.now c.before.before.before.if1.false
+chain-bound-requires : tie.Need-chain_bound-below-requires
+chain-bound-requires c κs = first_half_law c.before.before.before.args.words.now c.before.if-words-ne32.false
 
-sub-chain-bound : tie.Need-overflow-sub-chain-bound
+sub-chain-bound : tie.Need-slice_bounds-chain_bound-count
 sub-chain-bound c = search rules
 
-part-chain-bound-start : tie.Need-slice-bounds-chain-bound-start
+part-chain-bound-start : tie.Need-slice_bounds-chain_bound-start
 part-chain-bound-start c = search rules
 
-part-chain-bound-end : tie.Need-slice-bounds-chain-bound-end
+part-chain-bound-end : tie.Need-slice_bounds-chain_bound-end-2
 part-chain-bound-end c = search rules
 
-chain-bound-requires-2 : tie.Need-chain-bound-requires-2
+chain-bound-requires-2 : tie.Need-chain_bound-upper-requires
 chain-bound-requires-2 c κs = search rules
 
-add-lower : tie.Need-overflow-add-lower
+add-lower : tie.Need-overflow_add-lower
 add-lower c = search rules
 
 writes-requires : tie.Need-writes-requires
 writes-requires c κs = search rules
 
 -- what the calls found is what the words decode to
-module _ (c : tie.After-chain-bound2) where
+module _ (c : tie.After-chain_bound-upper) where
   abbrev lent : List ℕ
-  lent = c.before.before.before.before.before.before.before.before.args.words.now
+  lent = c.before.before.before.before.before.before.args.words.now
 
   abbrev read : Range
   read =
       record {
-        lower = c.before.before.chain-bound.result + 1;
-        upper = c.chain-bound2.result;
-        mask = complement c.before.before.before.before.lines-with.result;
+        lower = c.before.before.chain_bound-below.result + 1;
+        upper = c.chain_bound-upper.result;
+        mask = complement c.before.before.before.lines_with-mask.result;
       }
 
   count : length lent ≡ 32
-  count = c.before.before.before.before.before.before.if1.false
+  count = c.before.before.before.before.if-words-ne32.false
 
   found : decoded lent ≡ read
   found =
-      let mask = ap complement c.before.before.before.before.lines-with.ensures in
+      let mask = ap complement c.before.before.before.lines_with-mask.ensures in
       let rest : take (length lent - 16) (drop 16 lent) ≡ drop 16 lent
       = take_all (length lent - 16) (drop 16 lent) (simp length-drop (omega (arith, count))) in
       sym
       (range_path read (decoded lent)
-      (ap (λ (b : ℕ). b + 1) c.before.before.chain-bound.ensures ∙ ap (λ (m : ℕ). chain_bound m (take 16 lent) + 1) mask)
-      (c.chain-bound2.ensures ∙ ap₂ chain_bound mask rest) mask)
+      (ap (λ (b : ℕ). b + 1) c.before.before.chain_bound-below.ensures ∙ ap (λ (m : ℕ). chain_bound m (take 16 lent) + 1) mask)
+      (c.chain_bound-upper.ensures ∙ ap₂ chain_bound mask rest) mask)
 
-returns-2 : tie.Need-returns-2
+returns-2 : tie.Need-returns-then-writes
 returns-2 c =
-    let d = c.before.before.before in
-    read_meets (lent d) _ (in_order (lent d) (read d) (count d) (found d) _ true c.before.writes.ensures c.if3.true (omega arith))
+    read_meets (lent c.before.before.before) _ (in_order (lent c.before.before.before) (read c.before.before.before) (count c.before.before.before) (found c.before.before.before) _ true c.before.writes.ensures c.if-writes.true (omega arith))
 
-returns-3 : tie.Need-returns-3
+returns-3 : tie.Need-returns-else-writes
 returns-3 c =
-    let d = c.before.before.before in
-    read_meets (lent d) _ (in_order (lent d) (read d) (count d) (found d) _ false c.before.writes.ensures c.if3.false (omega arith))
+    read_meets (lent c.before.before.before) _ (in_order (lent c.before.before.before) (read c.before.before.before) (count c.before.before.before) (found c.before.before.before) _ false c.before.writes.ensures c.if-writes.false (omega arith))
 
-returns-4 : tie.Need-returns-4
+returns-4 : tie.Need-returns-else-below-upper
 returns-4 c =
-    let d = c.before in
-    read_meets (lent d) _ (out_of_order (lent d) (read d) (count d) (found d) (omega arith))
+    read_meets (lent c.before) _ (out_of_order (lent c.before) (read c.before) (count c.before) (found c.before) (omega arith))
 
-pub read-range-spec : {M : Type 1} → statement M
-read-range-spec =
+pub read_range_spec : {M : Type 1} → statement M
+read_range_spec =
     tie.close
     (tie.spec
     returns

@@ -23,60 +23,54 @@ module _ (lower upper mask : ℕ) (chains : List (List ℕ)) (made : chains ≡ 
       (first ∙ sym (length_chain mask (lower_value lower mask))))
       ∙ ap₂ same (take-append-drop 16 words) (sym (sent_chains lower upper mask))
 
-range-words-requires : tie.Need-range-words-requires
+range-words-requires : tie.Need-range_words-chains-requires
 range-words-requires c κs = search rules
 
-array-copy-out-lower-chain : tie.Need-array-copy-out-lower-chain
+array-copy-out-lower-chain : tie.Need-bounds-chains-0
 array-copy-out-lower-chain c = search rules
 
-array-copy-out-upper-chain : tie.Need-array-copy-out-upper-chain
+array-copy-out-upper-chain : tie.Need-bounds-chains-1
 array-copy-out-upper-chain c = search rules
 
-slice-aggregate-same-words : tie.Need-slice-aggregate-same-words
-slice-aggregate-same-words c = sym (length-take-le 16 c.before.before.before.before.before.args.words.now (omega arith))
+slice-aggregate-same-words : tie.Need-slice_bounds-same_words-end
+slice-aggregate-same-words c = sym (length-take-le 16 c.before.before.before.before.args.words.now (omega arith))
 
-slice-aggregate-same-words-2 : tie.Need-slice-aggregate-same-words-2
-slice-aggregate-same-words-2 c = lower_count _ _ _ _ c.before.before.before.before.range-words.ensures
+slice-aggregate-same-words-2 : tie.Need-slice_bounds-same_words-end-2
+slice-aggregate-same-words-2 c = lower_count _ _ _ _ c.before.before.before.range_words-chains.ensures
 
-same-words-requires : tie.Need-same-words-requires
+same-words-requires : tie.Need-same_words-requires
 same-words-requires c κs = search rules
 
-sub-same-words : tie.Need-overflow-sub-same-words
+sub-same-words : tie.Need-slice_bounds-same_words-count
 sub-same-words c = search rules
 
-part-same-words-start : tie.Need-slice-bounds-same-words-start
+part-same-words-start : tie.Need-slice_bounds-same_words-start
 part-same-words-start c = search rules
 
-part-same-words-end : tie.Need-slice-bounds-same-words-end
+part-same-words-end : tie.Need-slice_bounds-same_words-end-then-same_words
 part-same-words-end c = search rules
 
-slice-aggregate-same-words-3 : tie.Need-slice-aggregate-same-words-3
-slice-aggregate-same-words-3 c = upper_count _ _ _ _ c.before.before.before.before.before.before.before.before.range-words.ensures
+slice-aggregate-same-words-3 : tie.Need-slice_bounds-same_words-end-then-same_words-2
+slice-aggregate-same-words-3 c = upper_count _ _ _ _ c.before.before.before.before.before.before.before.range_words-chains.ensures
 
-same-words-requires-2 : tie.Need-same-words-requires-2
+same-words-requires-2 : tie.Need-same_words-requires-then-same_words
 same-words-requires-2 c κs = search rules
 
-returns : tie.Need-returns
+returns : tie.Need-returns-then-same_words
 returns c =
-    let first = c.before.before.before.before in
-    let made = first.before.before.before.before.before in
-    let start = made.before.before in
-    sym (ap (λ (b : Bool). b && c.same-words2.result) c.before.before.before.if1.true)
-    ∙ compared start.args.lower start.args.upper start.args.mask _ made.range-words.ensures start.args.words.now _ _ start.requires
-    first.same_words.ensures c.same-words2.ensures
+    sym (ap (λ (b : Bool). b && c.same_words-then-same_words.result) c.before.before.before.if-same_words.true)
+    ∙ compared c.before.before.before.before.before.before.before.before.before.before.args.lower c.before.before.before.before.before.before.before.before.before.before.args.upper c.before.before.before.before.before.before.before.before.before.before.args.mask _ c.before.before.before.before.before.before.before.before.range_words-chains.ensures c.before.before.before.before.before.before.before.before.before.before.args.words.now _ _ c.before.before.before.before.before.before.before.before.before.before.requires
+    c.before.before.before.before.same_words.ensures c.same_words-then-same_words.ensures
 
-returns-2 : tie.Need-returns-2
+returns-2 : tie.Need-returns
 returns-2 c =
-    let first = c.before in
-    let made = first.before.before.before.before.before in
-    let start = made.before.before in
-    let words = start.args.words.now in
-    sym (ap (λ (b : Bool). b && same (take (length words - 16) (drop 16 words)) (get_or made.range-words.result 1 [])) c.if1.false)
-    ∙ compared start.args.lower start.args.upper start.args.mask _ made.range-words.ensures words _ _ start.requires
-    first.same_words.ensures refl
+    let words = c.before.before.before.before.before.before.before.args.words.now in
+    sym (ap (λ (b : Bool). b && same (take (length words - 16) (drop 16 words)) (get_or c.before.before.before.before.before.range_words-chains.result 1 [])) c.if-same_words.false)
+    ∙ compared c.before.before.before.before.before.before.before.args.lower c.before.before.before.before.before.before.before.args.upper c.before.before.before.before.before.before.before.args.mask _ c.before.before.before.before.before.range_words-chains.ensures words _ _ c.before.before.before.before.before.before.before.requires
+    c.before.same_words.ensures refl
 
-pub writes-spec : {M : Type 1} → statement M
-writes-spec =
+pub writes_spec : {M : Type 1} → statement M
+writes_spec =
     tie.close
     (tie.spec
     range-words-requires

@@ -5,44 +5,44 @@ use Rattle.range.proofs.Packed.{carried}
 use Rattle.range.proofs.model.chain_carry.Statement.{statement}
 use Rattle.range.proofs.model.chain_carry.Tie as tie
 
-packed-requires : tie.Need-packed-requires
+packed-requires : tie.Need-packed-above-requires
 packed-requires c κs = search rules
 
-packed-requires-2 : tie.Need-packed-requires-2
+packed-requires-2 : tie.Need-packed-below-requires
 packed-requires-2 c κs = search rules
 
-mul-even : tie.Need-overflow-mul-even
+mul-even : tie.Need-overflow_mul-even
 mul-even c = search rules
 
-add-even : tie.Need-overflow-add-even
+add-even : tie.Need-overflow_add-even
 add-even c = search rules
 
-mul-odd : tie.Need-overflow-mul-odd
+mul-odd : tie.Need-overflow_mul-odd
 mul-odd c = search rules
 
-add-odd : tie.Need-overflow-add-odd
+add-odd : tie.Need-overflow_add-odd
 add-odd c = search rules
 
-returns : tie.Need-returns
+returns : tie.Need-returns-then-zeros-ones
 returns c =
     let a = c.before.before.before.before.args in
-    let first = c.before.before.packed in
-    let second = c.before.packed2 in
+    let first = c.before.before.packed-above in
+    let second = c.before.packed-below in
     carried a.chain.now a.sample first.result second.result (omega arith) (omega arith)
     first.ensures.0 first.ensures.1 second.ensures.0 second.ensures.1 1
-    (sym (ap one_if (lt-ltb _ _ c.if1.true)))
+    (sym (ap one_if (lt-ltb _ _ c.if-zeros-ones.true)))
 
-returns-2 : tie.Need-returns-2
+returns-2 : tie.Need-returns-else-zeros-ones
 returns-2 c =
     let a = c.before.before.before.before.args in
-    let first = c.before.before.packed in
-    let second = c.before.packed2 in
+    let first = c.before.before.packed-above in
+    let second = c.before.packed-below in
     carried a.chain.now a.sample first.result second.result (omega arith) (omega arith)
     first.ensures.0 first.ensures.1 second.ensures.0 second.ensures.1 0
-    (sym (ap one_if (le-ltb _ _ c.if1.false)))
+    (sym (ap one_if (le-ltb _ _ c.if-zeros-ones.false)))
 
-pub chain-carry-spec : {M : Type 1} → statement M
-chain-carry-spec =
+pub chain_carry_spec : {M : Type 1} → statement M
+chain_carry_spec =
     tie.close
     (tie.spec
     packed-requires

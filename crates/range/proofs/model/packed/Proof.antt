@@ -14,10 +14,10 @@ lows chain start k = low (get_or chain (start + k) 0)
 abbrev highs : (chain : List ℕ) (start k : ℕ) → ℕ
 highs chain start k = high (get_or chain (start + k) 0)
 
-abbrev invariant-loop : tie.invariant-loop
+abbrev invariant-loop : tie.invariant-loop-k
 invariant-loop chain start r₀ k₀ r k = (k ≤ 8) × (r ≡ quads (highs chain start) k * 65536 + quads (lows chain start) k)
 
-abbrev decreases-loop : tie.decreases-loop
+abbrev decreases-loop : tie.decreases-loop-k
 decreases-loop chain start r₀ k₀ r k = 8 - k
 
 -- seven have room for one more
@@ -51,53 +51,53 @@ module _ (chain : List ℕ) (start r k : ℕ) (e : r ≡ quads (highs chain star
         ∙ ap (λ (n : ℕ). line (quads (highs chain start) n) j) h ∙ quads_line (highs chain start) 8 j (omega arith),
   )
 
-loop-holds : tie.Need-loop-init invariant-loop decreases-loop
+loop-holds : tie.Need-loop-k-init invariant-loop decreases-loop
 unfolding quads
 loop-holds c = (omega arith, refl)
 
-mul-r : tie.Need-overflow-mul-r invariant-loop decreases-loop
+mul-r : tie.Need-overflow_mul-r invariant-loop decreases-loop
 mul-r c =
-    let l = c.before.loop in
+    let l = c.before.loop-k in
     let a = c.before.before.args in
     let h = fits a.chain.now a.from l.r l.k l.invariant.1 (omega arith) in
     omega arith
 
-add_r : tie.Need-overflow-add-r invariant-loop decreases-loop
+add_r : tie.Need-overflow_add-r invariant-loop decreases-loop
 add_r c = search rules
 
-mul-r-2 : tie.Need-overflow-mul-r-2 invariant-loop decreases-loop
+mul-r-2 : tie.Need-offset_bounds-chain-from invariant-loop decreases-loop
 mul-r-2 c = search rules
 
-shared-slice-read-r : tie.Need-shared-slice-read-r invariant-loop decreases-loop
+shared-slice-read-r : tie.Need-bounds-chain-from invariant-loop decreases-loop
 shared-slice-read-r c = search rules
 
-add-r-2 : tie.Need-overflow-add-r-2 invariant-loop decreases-loop
+add-r-2 : tie.Need-overflow_add-r-in-loop-k invariant-loop decreases-loop
 add-r-2 c =
-    let l = c.before.before.loop in
+    let l = c.before.before.loop-k in
     let a = c.before.before.before.args in
     let h = fits a.chain.now a.from l.r l.k l.invariant.1 (omega arith) in
     omega (arith, and_le_r (get_or a.chain.now (a.from + l.k) 0) 0x30003)
 
-add-k : tie.Need-overflow-add-k invariant-loop decreases-loop
+add-k : tie.Need-overflow_add-k invariant-loop decreases-loop
 add-k c = search rules
 
-loop-less : tie.Need-loop-smaller invariant-loop decreases-loop
+loop-less : tie.Need-loop-k-smaller invariant-loop decreases-loop
 loop-less c = search rules
 
-loop-again : tie.Need-loop-preserved invariant-loop decreases-loop
+loop-again : tie.Need-loop-k-preserved invariant-loop decreases-loop
 loop-again c =
-    let l = c.before.before.loop in
+    let l = c.before.before.loop-k in
     let a = c.before.before.before.args in
     (omega arith, turn a.chain.now a.from l.r l.k l.invariant.1)
 
 returns : tie.Need-returns invariant-loop decreases-loop
 returns c =
-    let l = c.before.loop in
+    let l = c.before.loop-k in
     let a = c.before.before.args in
     done a.chain.now a.from l.r l.k l.invariant.1 (omega arith)
 
-pub packed-spec : {M : Type 1} → statement M
-packed-spec =
+pub packed_spec : {M : Type 1} → statement M
+packed_spec =
     tie.close
     (tie.spec
     invariant-loop

@@ -4,28 +4,28 @@ use lib.Bits.{and_mask}
 use Rattle.range.proofs.model.table_at.Statement.{statement}
 use Rattle.range.proofs.model.table_at.Tie as tie
 
-cast-word : tie.Need-overflow-cast-word
+cast-word : tie.Need-overflow_cast-word
 cast-word c = search rules
 
-sub_word : tie.Need-overflow-sub-word
+sub_word : tie.Need-overflow_sub-word
 sub_word c = search rules
 
-mul-word : tie.Need-overflow-mul-word
+mul-word : tie.Need-offset_bounds-chain-i
 mul-word c = search rules
 
-shared-slice-read-word : tie.Need-shared-slice-read-word
+shared-slice-read-word : tie.Need-bounds-chain-i
 shared-slice-read-word c = search rules
 
-returns : tie.Need-returns
-returns c = rw c.if1.true
+returns : tie.Need-returns-then-i-eq1
+returns c = rw c.if-i-eq1.true
 
 -- a number that is not odd is even
 even : (x : ℕ) → (x % 2 ≡ 1 → ⊥) → x % 2 ≡ 0
 even x h = omega arith
 
-returns-2 : tie.Need-returns-2
-returns-2 c = rw (even _ c.if1.false) (and_mask _ 16)
+returns-2 : tie.Need-returns-else-i-eq1
+returns-2 c = rw (even _ c.if-i-eq1.false) (and_mask _ 16)
 
-pub table-at-spec : {M : Type 1} → statement M
-table-at-spec =
+pub table_at_spec : {M : Type 1} → statement M
+table_at_spec =
     tie.close (tie.spec cast-word sub_word mul-word shared-slice-read-word returns returns-2)

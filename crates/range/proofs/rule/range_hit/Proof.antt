@@ -5,16 +5,16 @@ use Rattle.range.specs.Rule.{range_hit}
 use Rattle.range.proofs.rule.range_hit.Statement.{statement}
 use Rattle.range.proofs.rule.range_hit.Tie as tie
 
-gather-requires : tie.Need-gather-requires
+gather-requires : tie.Need-gather-x-requires
 gather-requires c κs = search rules
 
-returns : tie.Need-returns
+returns : tie.Need-returns-then-lower-x
 unfolding range_hit
-returns c = rw (← c.before.gather.ensures, le-leb _ _ c.if1.true)
+returns c = rw (← c.before.gather-x.ensures, le-leb _ _ c.if-lower-x.true)
 
-returns-2 : tie.Need-returns-2
+returns-2 : tie.Need-returns
 unfolding range_hit
-returns-2 c = rw (← c.before.gather.ensures, lt-leb _ _ c.if1.false)
+returns-2 c = rw (← c.before.gather-x.ensures, lt-leb _ _ c.if-lower-x.false)
 
-pub range-hit-spec : {M : Type 1} → statement M
-range-hit-spec = tie.close (tie.spec gather-requires returns returns-2)
+pub range_hit_spec : {M : Type 1} → statement M
+range_hit_spec = tie.close (tie.spec gather-requires returns returns-2)

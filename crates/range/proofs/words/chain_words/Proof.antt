@@ -10,37 +10,37 @@ use Rattle.range.proofs.words.chain_words.Tie as tie
 abbrev Written : ℕ → ℕ → ℕ → List ℕ → Type 0
 Written mask spread k words = (j : ℕ) → j < k → get_or words j 0 ≡ pair_word mask spread (15 - j)
 
-abbrev invariant-loop : tie.invariant-loop
+abbrev invariant-loop : tie.invariant-loop-k
 invariant-loop mask value spread words₀ k₀ words k = (k ≤ 16) × (length words ≡ 16) × Written mask spread k words
 
-abbrev decreases-loop : tie.decreases-loop
+abbrev decreases-loop : tie.decreases-loop-k
 decreases-loop mask value spread words₀ k₀ words k = 16 - k
 
-scatter-requires : tie.Need-scatter-requires invariant-loop decreases-loop
+scatter-requires : tie.Need-scatter-spread-requires invariant-loop decreases-loop
 scatter-requires c κs = search rules
 
-loop-holds : tie.Need-loop-init invariant-loop decreases-loop
+loop-holds : tie.Need-loop-k-init invariant-loop decreases-loop
 loop-holds c = (omega arith, refl, λ j h. absurd (omega arith))
 
-cast-pair-word : tie.Need-overflow-cast-pair-word invariant-loop decreases-loop
+cast-pair-word : tie.Need-overflow_cast-k invariant-loop decreases-loop
 cast-pair-word c = omega arith
 
-sub-pair-word : tie.Need-overflow-sub-pair-word invariant-loop decreases-loop
+sub-pair-word : tie.Need-overflow_sub-k invariant-loop decreases-loop
 sub-pair-word c = omega arith
 
-pair-word-requires : tie.Need-pair-word-requires invariant-loop decreases-loop
+pair-word-requires : tie.Need-pair_word-requires invariant-loop decreases-loop
 pair-word-requires c κs = omega arith
 
-mul_words : tie.Need-overflow-mul-words invariant-loop decreases-loop
+mul_words : tie.Need-offset_bounds-words-k invariant-loop decreases-loop
 mul_words c = omega arith
 
-array-write-words : tie.Need-array-write-words invariant-loop decreases-loop
+array-write-words : tie.Need-bounds-words-k invariant-loop decreases-loop
 array-write-words c = omega arith
 
-add-k : tie.Need-overflow-add-k invariant-loop decreases-loop
+add-k : tie.Need-overflow_add-k invariant-loop decreases-loop
 add-k c = omega arith
 
-loop-less : tie.Need-loop-smaller invariant-loop decreases-loop
+loop-less : tie.Need-loop-k-smaller invariant-loop decreases-loop
 loop-less c = omega arith
 
 -- one more word is written
@@ -51,26 +51,24 @@ written_more mask spread k w words h len below e =
     (λ j l. get_or-set_other words k j w 0 (omega arith) ∙ below j l)
     (get_or-set_same words k w 0 (omega arith) ∙ e)
 
-loop-again : tie.Need-loop-preserved invariant-loop decreases-loop
+loop-again : tie.Need-loop-k-preserved invariant-loop decreases-loop
 loop-again c =
-    let at-loop = c.before.before in
-    let a = at-loop.before.before.args in (
+    let a = c.before.before.before.before.args in (
       omega arith,
-      simp length-set at-loop.loop.invariant.1,
-      written_more a.mask at-loop.before.scatter.result _ _ at-loop.loop.words (omega arith) at-loop.loop.invariant.1 at-loop.loop.invariant.2
-          c.pair-word.ensures,
+      simp length-set c.before.before.loop-k.invariant.1,
+      written_more a.mask c.before.before.before.scatter-spread.result _ _ c.before.before.loop-k.words (omega arith) c.before.before.loop-k.invariant.1 c.before.before.loop-k.invariant.2
+          c.pair_word.ensures,
     )
 
 returns : tie.Need-returns invariant-loop decreases-loop
 returns c =
-    let at-loop = c.before in
-    let a = at-loop.before.before.args in
-    let end : at-loop.loop.k ≡ 16 = omega arith in
-    chain_ext a.mask a.value at-loop.loop.words at-loop.loop.invariant.1
-    (rw (← at-loop.before.scatter.ensures) (rw end at at-loop.loop.invariant.2))
+    let a = c.before.before.before.args in
+    let end : c.before.loop-k.k ≡ 16 = omega arith in
+    chain_ext a.mask a.value c.before.loop-k.words c.before.loop-k.invariant.1
+    (rw (← c.before.before.scatter-spread.ensures) (rw end at c.before.loop-k.invariant.2))
 
-pub chain-words-spec : {M : Type 1} → statement M
-chain-words-spec =
+pub chain_words_spec : {M : Type 1} → statement M
+chain_words_spec =
     tie.close
     (tie.spec
     invariant-loop

@@ -6,19 +6,19 @@ use Rattle.range.proofs.Tables.{table_lt}
 use Rattle.range.proofs.words.pair_word.Statement.{statement}
 use Rattle.range.proofs.words.pair_word.Tie as tie
 
-mul-line-table : tie.Need-overflow-mul-line-table
+mul-line-table : tie.Need-overflow_mul-p
 mul-line-table c = search rules
 
-add-line-table : tie.Need-overflow-add-line-table
+add-line-table : tie.Need-overflow_add-p
 add-line-table c = search rules
 
-line-table-requires : tie.Need-line-table-requires
+line-table-requires : tie.Need-line_table-high-requires
 line-table-requires c κs = search rules
 
-mul-line-table-2 : tie.Need-overflow-mul-line-table-2
+mul-line-table-2 : tie.Need-overflow_mul-p-2
 mul-line-table-2 c = search rules
 
-line-table-requires-2 : tie.Need-line-table-requires-2
+line-table-requires-2 : tie.Need-line_table-low-requires
 line-table-requires-2 c κs = search rules
 
 -- two halves make a word
@@ -31,10 +31,10 @@ halves mask spread i j high low eh el =
 returns : tie.Need-returns
 returns c =
     let a = c.before.before.args in
-    halves a.mask a.spread (a.p * 2 + 1) (a.p * 2) _ _ c.before.line-table.ensures c.line-table2.ensures
+    halves a.mask a.spread (a.p * 2 + 1) (a.p * 2) _ _ c.before.line_table-high.ensures c.line_table-low.ensures
 
-pub pair-word-spec : {M : Type 1} → statement M
-pair-word-spec =
+pub pair_word_spec : {M : Type 1} → statement M
+pair_word_spec =
     tie.close
     (tie.spec
     mul-line-table

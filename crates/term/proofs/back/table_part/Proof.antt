@@ -3,25 +3,25 @@ use borrow.Author.Rules.{rules}
 use Rattle.term.proofs.back.table_part.Statement.{statement}
 use Rattle.term.proofs.back.table_part.Tie as tie
 
-enum_told : tie.Need-enum-told
+enum_told : tie.Need-enum_told-1
 enum_told c = search rules
 
-nibble-target-requires : tie.Need-nibble-target-requires
+nibble-target-requires : tie.Need-nibble_target-requires
 nibble-target-requires c κs = search rules
 
-enum-told-2 : tie.Need-enum-told-2
+enum-told-2 : tie.Need-enum_told-in-Mask
 enum-told-2 c = search rules
 
-nibble-mask-requires : tie.Need-nibble-mask-requires
+nibble-mask-requires : tie.Need-nibble_mask-requires
 nibble-mask-requires c κs = search rules
 
-returns : tie.Need-returns
-returns c = rw c.before.enum_told.given.1 c.nibble-target.ensures
+returns : tie.Need-returns-in-Target
+returns c = rw c.before.in-Target.is c.nibble_target.ensures
 
-returns-2 : tie.Need-returns-2
-returns-2 c = rw c.before.enum-told2.given.1 c.nibble-mask.ensures
+returns-2 : tie.Need-returns-in-Mask
+returns-2 c = rw c.before.in-Mask.is c.nibble_mask.ensures
 
-pub table-part-spec : {M : Type 1} → statement M
-table-part-spec =
+pub table_part_spec : {M : Type 1} → statement M
+table_part_spec =
     tie.close
     (tie.spec enum_told nibble-target-requires enum-told-2 nibble-mask-requires returns returns-2)

@@ -8,21 +8,21 @@ use Rattle.term.specs.Model.{word_hit}
 use Rattle.term.proofs.model.word_hit.Statement.{statement}
 use Rattle.term.proofs.model.word_hit.Tie as tie
 
-answer-at-requires : tie.Need-answer-at-requires
+answer-at-requires : tie.Need-answer_at-requires
 answer-at-requires c κs = search rules
 
-answer-at-requires-2 : tie.Need-answer-at-requires-2
+answer-at-requires-2 : tie.Need-answer_at-requires-then-answer_at-eq1
 answer-at-requires-2 c κs = search rules
 
-returns : tie.Need-returns
+returns : tie.Need-returns-then-answer_at-eq1
 unfolding word_hit
 returns c =
-    rw (eq-eqb _ _ (sym c.before.before.answer_at.ensures ∙ c.before.if1.true))
-    (ap (λ (x : ℕ). eqb x 1) c.answer-at2.ensures)
+    rw (eq-eqb _ _ (sym c.before.before.answer_at.ensures ∙ c.before.if-answer_at-eq1.true))
+    (ap (λ (x : ℕ). eqb x 1) c.answer_at-then-answer_at-eq1.ensures)
 
-returns-2 : tie.Need-returns-2
+returns-2 : tie.Need-returns-else-answer_at-eq1
 unfolding word_hit
-returns-2 c = rw (ne_eqb _ _ (λ e. c.if1.false (c.before.answer_at.ensures ∙ e)))
+returns-2 c = rw (ne_eqb _ _ (λ e. c.if-answer_at-eq1.false (c.before.answer_at.ensures ∙ e)))
 
-pub word-hit-spec : {M : Type 1} → statement M
-word-hit-spec = tie.close (tie.spec answer-at-requires answer-at-requires-2 returns returns-2)
+pub word_hit_spec : {M : Type 1} → statement M
+word_hit_spec = tie.close (tie.spec answer-at-requires answer-at-requires-2 returns returns-2)

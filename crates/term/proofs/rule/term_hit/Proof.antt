@@ -6,5 +6,5 @@ use Rattle.term.proofs.rule.term_hit.Tie as tie
 returns : tie.Need-returns
 returns c = let f = c.ranges in term_formula _ _ _ f.target.fits f.mask.fits f.sample.fits
 
-pub term-hit-spec : {M : Type 1} → statement M
-term-hit-spec = tie.close (tie.spec returns)
+pub term_hit_spec : {M : Type 1} → statement M
+term_hit_spec = tie.close (tie.spec returns)

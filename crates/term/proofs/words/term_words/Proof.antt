@@ -7,24 +7,24 @@ use borrow.Author.Rules.{rules}
 use Rattle.term.proofs.words.term_words.Statement.{statement}
 use Rattle.term.proofs.words.term_words.Tie as tie
 
-chain-word-requires : tie.Need-chain-word-requires
+chain-word-requires : tie.Need-chain_word-requires
 chain-word-requires c κs = search rules
 
-chain-word-requires-2 : tie.Need-chain-word-requires-2
+chain-word-requires-2 : tie.Need-chain_word-requires-2
 chain-word-requires-2 c κs = search rules
 
-chain-word-requires-3 : tie.Need-chain-word-requires-3
+chain-word-requires-3 : tie.Need-chain_word-requires-3
 chain-word-requires-3 c κs = search rules
 
-chain-word-requires-4 : tie.Need-chain-word-requires-4
+chain-word-requires-4 : tie.Need-chain_word-requires-4
 chain-word-requires-4 c κs = search rules
 
 returns : tie.Need-returns
 unfolding term_words down
 returns c = simp div-one (cc)
 
-pub term-words-spec : {M : Type 1} → statement M
-term-words-spec =
+pub term_words_spec : {M : Type 1} → statement M
+term_words_spec =
     tie.close
     (tie.spec
     chain-word-requires
