@@ -4,27 +4,27 @@ use borrow.Author.Rules.{rules}
 use Rattle.state.proofs.description.put_words.Statement.{statement}
 use Rattle.state.proofs.description.put_words.Tie as tie
 
-from-bytes-requires : tie.Need-from-bytes-requires
+from-bytes-requires : tie.Need-from_bytes-requires
 from-bytes-requires c κs = search rules
 
-word-of-requires : tie.Need-word-of-requires
+word-of-requires : tie.Need-word_of-word-requires
 word-of-requires c κs = search rules
 
-slice-aggregate-put-words : tie.Need-slice-aggregate-put-words
+slice-aggregate-put-words : tie.Need-slice_bounds-put_words-end
 slice-aggregate-put-words c = search rules
 
-put-words-requires : tie.Need-put-words-requires
+put-words-requires : tie.Need-put_words-requires
 put-words-requires c κs = search rules
 
-same_length : tie.Need-same-length
+same_length : tie.Need-shape_of-out
 same_length c = search rules
 
 returns : tie.Need-returns
 unfolding words
-returns c = rw (c.before.before.before.before.before.word_of.ensures, c.before.before.before.before.before.before.from_bytes.ensures) at c.before.before.put-words.ensures
+returns c = rw (c.before.before.before.before.before.word_of-word.ensures, c.before.before.before.before.before.before.from_bytes.ensures) at c.before.before.put_words.ensures
 
-pub put-words-spec : {M : Type 1} → statement M
-put-words-spec =
+pub put_words_spec : {M : Type 1} → statement M
+put_words_spec =
     tie.close
     (tie.spec
     from-bytes-requires

@@ -7,90 +7,90 @@ use Rattle.sum.specs.Back.{codes_of}
 use Rattle.sum.proofs.back.codes_of.Statement.{statement}
 use Rattle.sum.proofs.back.codes_of.Tie as tie
 
-array-read-op-code : tie.Need-array-read-op-code
+array-read-op-code : tie.Need-bounds-w-5
 array-read-op-code c = search rules
 
-op-code-requires : tie.Need-op-code-requires
+op-code-requires : tie.Need-op_code-requires
 op-code-requires c κs = search rules
 
-array-read-op-code-2 : tie.Need-array-read-op-code-2
+array-read-op-code-2 : tie.Need-bounds-w-5-2
 array-read-op-code-2 c = search rules
 
-op-code-requires-2 : tie.Need-op-code-requires-2
+op-code-requires-2 : tie.Need-op_code-requires-2
 op-code-requires-2 c κs = search rules
 
-array-read-op-code-3 : tie.Need-array-read-op-code-3
+array-read-op-code-3 : tie.Need-bounds-w-4
 array-read-op-code-3 c = search rules
 
-op-code-requires-3 : tie.Need-op-code-requires-3
+op-code-requires-3 : tie.Need-op_code-requires-3
 op-code-requires-3 c κs = search rules
 
-array-read-op-code-4 : tie.Need-array-read-op-code-4
+array-read-op-code-4 : tie.Need-bounds-w-4-2
 array-read-op-code-4 c = search rules
 
-op-code-requires-4 : tie.Need-op-code-requires-4
+op-code-requires-4 : tie.Need-op_code-requires-4
 op-code-requires-4 c κs = search rules
 
-array-read-op-code-5 : tie.Need-array-read-op-code-5
+array-read-op-code-5 : tie.Need-bounds-w-3
 array-read-op-code-5 c = search rules
 
-op-code-requires-5 : tie.Need-op-code-requires-5
+op-code-requires-5 : tie.Need-op_code-requires-5
 op-code-requires-5 c κs = search rules
 
-array-read-op-code-6 : tie.Need-array-read-op-code-6
+array-read-op-code-6 : tie.Need-bounds-w-3-2
 array-read-op-code-6 c = search rules
 
-op-code-requires-6 : tie.Need-op-code-requires-6
+op-code-requires-6 : tie.Need-op_code-requires-6
 op-code-requires-6 c κs = search rules
 
-array-read-op-code-7 : tie.Need-array-read-op-code-7
+array-read-op-code-7 : tie.Need-bounds-w-2
 array-read-op-code-7 c = search rules
 
-op-code-requires-7 : tie.Need-op-code-requires-7
+op-code-requires-7 : tie.Need-op_code-requires-7
 op-code-requires-7 c κs = search rules
 
-array-read-op-code-8 : tie.Need-array-read-op-code-8
+array-read-op-code-8 : tie.Need-bounds-w-2-2
 array-read-op-code-8 c = search rules
 
-op-code-requires-8 : tie.Need-op-code-requires-8
+op-code-requires-8 : tie.Need-op_code-requires-8
 op-code-requires-8 c κs = search rules
 
-array-read-op-code-9 : tie.Need-array-read-op-code-9
+array-read-op-code-9 : tie.Need-bounds-w-1
 array-read-op-code-9 c = search rules
 
-op-code-requires-9 : tie.Need-op-code-requires-9
+op-code-requires-9 : tie.Need-op_code-requires-9
 op-code-requires-9 c κs = search rules
 
-array-read-op-code-10 : tie.Need-array-read-op-code-10
+array-read-op-code-10 : tie.Need-bounds-w-1-2
 array-read-op-code-10 c = search rules
 
-op-code-requires-10 : tie.Need-op-code-requires-10
+op-code-requires-10 : tie.Need-op_code-requires-10
 op-code-requires-10 c κs = search rules
 
-array-read-op-code-11 : tie.Need-array-read-op-code-11
+array-read-op-code-11 : tie.Need-bounds-w-0
 array-read-op-code-11 c = search rules
 
-op-code-requires-11 : tie.Need-op-code-requires-11
+op-code-requires-11 : tie.Need-op_code-requires-11
 op-code-requires-11 c κs = search rules
 
 returns : tie.Need-returns
 unfolding codes_of
 returns c =
-    ap₂ ◌∷◌ c.before.before.before.before.before.before.before.before.before.before.op-code.ensures
-    (ap₂ ◌∷◌ c.before.before.before.before.before.before.before.before.before.op-code2.ensures
-    (ap₂ ◌∷◌ c.before.before.before.before.before.before.before.before.op-code3.ensures
-    (ap₂ ◌∷◌ c.before.before.before.before.before.before.before.op-code4.ensures
-    (ap₂ ◌∷◌ c.before.before.before.before.before.before.op-code5.ensures
-    (ap₂ ◌∷◌ c.before.before.before.before.before.op-code6.ensures
-    (ap₂ ◌∷◌ c.before.before.before.before.op-code7.ensures
-    (ap₂ ◌∷◌ c.before.before.before.op-code8.ensures
-    (ap₂ ◌∷◌ c.before.before.op-code9.ensures
-    (ap₂ ◌∷◌ c.before.op-code10.ensures
-    (ap₂ ◌∷◌ c.op-code11.ensures
+    ap₂ ◌∷◌ c.before.before.before.before.before.before.before.before.before.before.op_code.ensures
+    (ap₂ ◌∷◌ c.before.before.before.before.before.before.before.before.before.op_code-2.ensures
+    (ap₂ ◌∷◌ c.before.before.before.before.before.before.before.before.op_code-3.ensures
+    (ap₂ ◌∷◌ c.before.before.before.before.before.before.before.op_code-4.ensures
+    (ap₂ ◌∷◌ c.before.before.before.before.before.before.op_code-5.ensures
+    (ap₂ ◌∷◌ c.before.before.before.before.before.op_code-6.ensures
+    (ap₂ ◌∷◌ c.before.before.before.before.op_code-7.ensures
+    (ap₂ ◌∷◌ c.before.before.before.op_code-8.ensures
+    (ap₂ ◌∷◌ c.before.before.op_code-9.ensures
+    (ap₂ ◌∷◌ c.before.op_code-10.ensures
+    (ap₂ ◌∷◌ c.op_code-11.ensures
     refl))))))))))
 
-pub codes-of-spec : {M : Type 1} → statement M
-codes-of-spec =
+pub codes_of_spec : {M : Type 1} → statement M
+codes_of_spec =
     tie.close
     (tie.spec
     array-read-op-code

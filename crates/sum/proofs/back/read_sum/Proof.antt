@@ -7,53 +7,53 @@ use Rattle.sum.proofs.Cases.{read_meets, read_other, read_ok, read_bad}
 use Rattle.sum.proofs.back.read_sum.Statement.{statement}
 use Rattle.sum.proofs.back.read_sum.Tie as tie
 
-returns : tie.Need-returns
+returns : tie.Need-returns-then-words-ne6
 returns c =
-    let w = c.before.before.args.words.now in read_meets w _ (read_other w c.if1.true)
+    let w = c.before.before.args.words.now in read_meets w _ (read_other w c.if-words-ne6.true)
 
-shared-slice-read-t8 : tie.Need-shared-slice-read-t8
+shared-slice-read-t8 : tie.Need-bounds-words-0
 shared-slice-read-t8 c = search rules
 
-shared-slice-read-t10 : tie.Need-shared-slice-read-t10
+shared-slice-read-t10 : tie.Need-bounds-words-1
 shared-slice-read-t10 c = search rules
 
-shared-slice-read-t12 : tie.Need-shared-slice-read-t12
+shared-slice-read-t12 : tie.Need-bounds-words-2
 shared-slice-read-t12 c = search rules
 
-shared-slice-read-t14 : tie.Need-shared-slice-read-t14
+shared-slice-read-t14 : tie.Need-bounds-words-3
 shared-slice-read-t14 c = search rules
 
-shared-slice-read-t16 : tie.Need-shared-slice-read-t16
+shared-slice-read-t16 : tie.Need-bounds-words-4
 shared-slice-read-t16 c = search rules
 
-shared-slice-read-t18 : tie.Need-shared-slice-read-t18
+shared-slice-read-t18 : tie.Need-bounds-words-5
 shared-slice-read-t18 c = search rules
 
-codes-of-requires : tie.Need-codes-of-requires
+codes-of-requires : tie.Need-codes_of-ops-requires
 codes-of-requires c κs = search rules
 
-slice-aggregate-codes-accepted : tie.Need-slice-aggregate-codes-accepted
+slice-aggregate-codes-accepted : tie.Need-slice_bounds-codes_accepted-end
 slice-aggregate-codes-accepted c = search rules
 
-codes-accepted-requires : tie.Need-codes-accepted-requires
+codes-accepted-requires : tie.Need-codes_accepted-requires
 codes-accepted-requires c κs = search rules
 
-returns-2 : tie.Need-returns-2
+returns-2 : tie.Need-returns-then-codes_accepted
 returns-2 c =
     let w = c.before.before.before.before.before.before.before.before.before.before.before.before.args.words.now in
-    let codes = c.before.before.before.codes-of in
+    let codes = c.before.before.before.codes_of-ops in
     read_meets w _
-    (read_ok w codes.result (omega arith) codes.ensures (sym c.before.codes-accepted.ensures ∙ c.if2.true))
+    (read_ok w codes.result (omega arith) codes.ensures (sym c.before.codes_accepted.ensures ∙ c.if-codes_accepted.true))
 
-returns-3 : tie.Need-returns-3
+returns-3 : tie.Need-returns-else-codes_accepted
 returns-3 c =
     let w = c.before.before.before.before.before.before.before.before.before.before.before.before.args.words.now in
-    let codes = c.before.before.before.codes-of in
+    let codes = c.before.before.before.codes_of-ops in
     read_meets w _
-    (read_bad w codes.result (omega arith) codes.ensures (sym c.before.codes-accepted.ensures ∙ c.if2.false))
+    (read_bad w codes.result (omega arith) codes.ensures (sym c.before.codes_accepted.ensures ∙ c.if-codes_accepted.false))
 
-pub read-sum-spec : {M : Type 1} → statement M
-read-sum-spec =
+pub read_sum_spec : {M : Type 1} → statement M
+read_sum_spec =
     tie.close
     (tie.spec
     returns

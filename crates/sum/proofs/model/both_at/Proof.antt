@@ -29,20 +29,20 @@ both word i j h =
     rw (low_bit word i h, high_bit word j)
     (refl, let a = bit_lt (low word / 2 ^ i) in let b = bit_lt (high word / 2 ^ j) in omega arith)
 
-shr-result : tie.Need-overflow-shr-result
+shr-result : tie.Need-overflow_shr-result
 shr-result c = search rules
 
-add-result : tie.Need-overflow-add-result
+add-result : tie.Need-overflow_add-result
 add-result c = search rules
 
-shr-result-2 : tie.Need-overflow-shr-result-2
+shr-result-2 : tie.Need-overflow_shr-result-2
 shr-result-2 c = search rules
 
-add-result-2 : tie.Need-overflow-add-result-2
+add-result-2 : tie.Need-overflow_add-result-2
 add-result-2 c = let s = (both c.args.word c.args.i c.args.j c.requires.0).1 in omega arith
 
 returns : tie.Need-returns
 returns c = both c.args.word c.args.i c.args.j c.requires.0
 
-pub both-at-spec : {M : Type 1} → statement M
-both-at-spec = tie.close (tie.spec shr-result add-result shr-result-2 add-result-2 returns)
+pub both_at_spec : {M : Type 1} → statement M
+both_at_spec = tie.close (tie.spec shr-result add-result shr-result-2 add-result-2 returns)

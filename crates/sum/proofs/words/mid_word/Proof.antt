@@ -9,16 +9,16 @@ use Rattle.sum.specs.Operation.{mid_ops}
 use Rattle.sum.proofs.words.mid_word.Statement.{statement}
 use Rattle.sum.proofs.words.mid_word.Tie as tie
 
-operation-at-requires : tie.Need-operation-at-requires
+operation-at-requires : tie.Need-operation_at-words-requires
 operation-at-requires c κs = search rules
 
-returns : tie.Need-returns
-returns c = c.operation-at.ensures.1.0
+returns : tie.Need-returns-then-code-lt16
+returns c = c.operation_at-words.ensures.1.0
 
-returns-2 : tie.Need-returns-2
+returns-2 : tie.Need-returns
 returns-2 c =
     let past : 10 ≤ c.before.args.code = omega arith in
     (sym (get_or-eq_default mid_ops 0 past), lit< tt)
 
-pub mid-word-spec : {M : Type 1} → statement M
-mid-word-spec = tie.close (tie.spec operation-at-requires returns returns-2)
+pub mid_word_spec : {M : Type 1} → statement M
+mid_word_spec = tie.close (tie.spec operation-at-requires returns returns-2)
