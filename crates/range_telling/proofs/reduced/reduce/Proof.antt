@@ -18,10 +18,10 @@ use Rattle.range_telling.proofs.reduced.reduce.Tie as tie
 abbrev range : ℕ → ℕ → ℕ → Range
 range lower upper mask = record { lower = lower; upper = upper; mask = mask }
 
-abbrev invariant-loop : tie.invariant-loop
+abbrev invariant-loop : tie.invariant-loop-i
 invariant-loop lower₀ upper₀ mask₀ i₀ lower upper mask i = (i ≤ 32) × (reduce_from (32 - i) (range lower upper mask) ≡ reduce_of (range lower₀ upper₀ mask₀))
 
-abbrev decreases-loop : tie.decreases-loop
+abbrev decreases-loop : tie.decreases-loop-i
 decreases-loop lower₀ upper₀ mask₀ i₀ lower upper mask i = 32 - i
 
 odd_lower : (r : Range) → (r.lower % 2 ≡ 0 → ⊥) → idle r ≡ false
@@ -45,48 +45,47 @@ end r n e = rw e
 meets : (r q : Range) → q ≡ reduce_of r → (q ≡ reduce_of r) × (Accepted r → Reduces r q)
 meets r q e = (e, λ a. subst (Reduces r) (sym e) (reduces r a))
 
-loop-holds : tie.Need-loop-init invariant-loop decreases-loop
+loop-holds : tie.Need-loop-i-init invariant-loop decreases-loop
 unfolding reduce_of
 loop-holds c = (omega arith, refl)
 
-returns : tie.Need-returns invariant-loop decreases-loop
+returns : tie.Need-returns-then-lower-ne0 invariant-loop decreases-loop
 returns c =
-    let at-loop = c.before.before.loop in
+    let at-loop = c.before.before.loop-i in
     let now = range at-loop.lower at-loop.upper at-loop.mask in
-    meets c.before.before.before.args.range now (sym (reduce_stop (32 - at-loop.i) now (odd_lower now c.if1.true)) ∙ at-loop.invariant.1)
+    meets c.before.before.before.args.range now (sym (reduce_stop (32 - at-loop.i) now (odd_lower now c.if-lower-ne0.true)) ∙ at-loop.invariant.1)
 
-returns-2 : tie.Need-returns-2 invariant-loop decreases-loop
+returns-2 : tie.Need-returns-then-upper-ne1 invariant-loop decreases-loop
 returns-2 c =
-    let at-loop = c.before.before.before.loop in
+    let at-loop = c.before.before.before.loop-i in
     let now = range at-loop.lower at-loop.upper at-loop.mask in
-    meets c.before.before.before.before.args.range now (sym (reduce_stop (32 - at-loop.i) now (even_upper now c.if2.true)) ∙ at-loop.invariant.1)
+    meets c.before.before.before.before.args.range now (sym (reduce_stop (32 - at-loop.i) now (even_upper now c.if-upper-ne1.true)) ∙ at-loop.invariant.1)
 
-drop-lowest-requires : tie.Need-drop-lowest-requires invariant-loop decreases-loop
+drop-lowest-requires : tie.Need-drop_lowest-mask-requires invariant-loop decreases-loop
 drop-lowest-requires c κs = search rules
 
-add-i : tie.Need-overflow-add-i invariant-loop decreases-loop
+add-i : tie.Need-overflow_add-i invariant-loop decreases-loop
 add-i c = omega arith
 
-loop-less : tie.Need-loop-smaller invariant-loop decreases-loop
+loop-less : tie.Need-loop-i-smaller invariant-loop decreases-loop
 loop-less c = omega arith
 
-loop-again : tie.Need-loop-preserved invariant-loop decreases-loop
+loop-again : tie.Need-loop-i-preserved invariant-loop decreases-loop
 loop-again c =
-    let inside = c.before.before.before in
-    let at-loop = inside.before.loop in (
+    let at-loop = c.before.before.before.before.loop-i in (
       omega arith,
-      next at-loop.lower at-loop.upper at-loop.mask at-loop.i _ inside.loop-test.true c.before.before.if1.false c.before.if2.false
-          c.drop-lowest.ensures ∙ at-loop.invariant.1,
+      next at-loop.lower at-loop.upper at-loop.mask at-loop.i _ c.before.before.before.loop-i-test.true c.before.before.if-lower-ne0.false c.before.if-upper-ne1.false
+          c.drop_lowest-mask.ensures ∙ at-loop.invariant.1,
     )
 
-returns-3 : tie.Need-returns-3 invariant-loop decreases-loop
+returns-3 : tie.Need-returns invariant-loop decreases-loop
 returns-3 c =
-    let at-loop = c.before.loop in
+    let at-loop = c.before.loop-i in
     let now = range at-loop.lower at-loop.upper at-loop.mask in
     meets c.before.before.args.range now (end now (32 - at-loop.i) (omega arith) ∙ at-loop.invariant.1)
 
-pub reduce-spec : {M : Type 1} → statement M
-reduce-spec =
+pub reduce_spec : {M : Type 1} → statement M
+reduce_spec =
     tie.close
     (tie.spec
     invariant-loop

@@ -14,10 +14,10 @@ use Rattle.range_telling.specs.Telling.{first_differ}
 use Rattle.range_telling.proofs.telling.first_differ.Statement.{statement}
 use Rattle.range_telling.proofs.telling.first_differ.Tie as tie
 
-abbrev invariant-loop : tie.invariant-loop
+abbrev invariant-loop : tie.invariant-loop-i
 invariant-loop m n i₀ i = (i ≤ 32) × (first_differ (32 - i) (m / 2 ^ i) (n / 2 ^ i) + i ≡ first_differ 32 m n)
 
-abbrev decreases-loop : tie.decreases-loop
+abbrev decreases-loop : tie.decreases-loop-i
 decreases-loop m n i₀ i = 32 - i
 
 -- line i alone
@@ -48,40 +48,39 @@ end m n i h l =
     let last : 32 - i ≡ 0 = omega arith in
     rw last (sym (zero-add i))
 
-loop-holds : tie.Need-loop-init invariant-loop decreases-loop
+loop-holds : tie.Need-loop-i-init invariant-loop decreases-loop
 loop-holds c = (omega arith, add-zero _ ∙ ap₂ (first_differ 32) (div-one c.args.m) (div-one c.args.n))
 
-line-value-requires : tie.Need-line-value-requires invariant-loop decreases-loop
+line-value-requires : tie.Need-line_value-requires invariant-loop decreases-loop
 line-value-requires c κs = search rules
 
-line-value-requires-2 : tie.Need-line-value-requires-2 invariant-loop decreases-loop
+line-value-requires-2 : tie.Need-line_value-requires-in-loop-i invariant-loop decreases-loop
 line-value-requires-2 c κs = search rules
 
-returns : tie.Need-returns invariant-loop decreases-loop
+returns : tie.Need-returns-then-line_value invariant-loop decreases-loop
 returns c =
-    let inside = c.before.before.before in
-    stop _ _ _ _ _ inside.loop-test.true c.before.before.line-value.ensures c.before.line-value2.ensures c.if1.true
-    ∙ inside.before.loop.invariant.1
+    stop _ _ _ _ _ c.before.before.before.loop-i-test.true c.before.before.line_value.ensures c.before.line_value-in-loop-i.ensures c.if-line_value.true
+    ∙ c.before.before.before.before.loop-i.invariant.1
 
-add-i : tie.Need-overflow-add-i invariant-loop decreases-loop
+add-i : tie.Need-overflow_add-i invariant-loop decreases-loop
 add-i c = omega arith
 
-loop-less : tie.Need-loop-smaller invariant-loop decreases-loop
+loop-less : tie.Need-loop-i-smaller invariant-loop decreases-loop
 loop-less c = omega arith
 
-loop-again : tie.Need-loop-preserved invariant-loop decreases-loop
+loop-again : tie.Need-loop-i-preserved invariant-loop decreases-loop
 loop-again c =
-    let inside = c.before.before.before in (
+    (
       omega arith,
-      next _ _ _ _ _ inside.loop-test.true c.before.before.line-value.ensures c.before.line-value2.ensures c.if1.false
-          ∙ inside.before.loop.invariant.1,
+      next _ _ _ _ _ c.before.before.before.loop-i-test.true c.before.before.line_value.ensures c.before.line_value-in-loop-i.ensures c.if-line_value.false
+          ∙ c.before.before.before.before.loop-i.invariant.1,
     )
 
-returns-2 : tie.Need-returns-2 invariant-loop decreases-loop
-returns-2 c = end _ _ _ c.before.loop.invariant.0 (omega arith) ∙ c.before.loop.invariant.1
+returns-2 : tie.Need-returns invariant-loop decreases-loop
+returns-2 c = end _ _ _ c.before.loop-i.invariant.0 (omega arith) ∙ c.before.loop-i.invariant.1
 
-pub first-differ-spec : {M : Type 1} → statement M
-first-differ-spec =
+pub first_differ_spec : {M : Type 1} → statement M
+first_differ_spec =
     tie.close
     (tie.spec
     invariant-loop

@@ -18,13 +18,13 @@ use Rattle.range_telling.proofs.Theorems.{telling_says}
 use Rattle.range_telling.proofs.telling.range_telling.Statement.{statement}
 use Rattle.range_telling.proofs.telling.range_telling.Tie as tie
 
-reduce-requires : tie.Need-reduce-requires
+reduce-requires : tie.Need-reduce-p-requires
 reduce-requires c κs = search rules
 
-reduce-requires-2 : tie.Need-reduce-requires-2
+reduce-requires-2 : tie.Need-reduce-q-requires
 reduce-requires-2 c κs = search rules
 
-tell-bounds-requires : tie.Need-tell-bounds-requires
+tell-bounds-requires : tie.Need-tell_bounds-requires
 tell-bounds-requires c κs = search rules
 
 -- what is right of the answer is right of what equals it
@@ -40,37 +40,31 @@ by_masks : (a b p q : Range) → p ≡ reduce_of a → q ≡ reduce_of b → (p.
 unfolding range_telling tell_reduced
 by_masks a b p q ep eq m = rw (← ep, ← eq, ne_eqb p.mask q.mask m)
 
-returns : tie.Need-returns
+returns : tie.Need-returns-then-p-q
 returns c =
-    let second = c.before.before.before.before in
-    let start = second.before.before in
-    meets start.args.old start.args.new _
-    (c.tell-bounds.ensures
-    ∙ by_bounds start.args.old start.args.new _ _ second.before.reduce.ensures.0 second.reduce2.ensures.0 c.before.if1.true)
+    meets c.before.before.before.before.before.before.args.old c.before.before.before.before.before.before.args.new _
+    (c.tell_bounds.ensures
+    ∙ by_bounds c.before.before.before.before.before.before.args.old c.before.before.before.before.before.before.args.new _ _ c.before.before.before.before.before.reduce-p.ensures.0 c.before.before.before.before.reduce-q.ensures.0 c.before.if-p-q.true)
 
 -- a reduced range is busy
 busy : (r p : Range) → p ≡ reduce_of r → r.upper < 2 ^ 32 → idle p ≡ false
 unfolding reduce_of
 busy r p e h = rw e (reduce_not_idle 32 r h)
 
-tell-masks-requires : tie.Need-tell-masks-requires
+tell-masks-requires : tie.Need-tell_masks-requires
 tell-masks-requires c κs =
-    let second = c.before.before.before in
-    let start = second.before.before in
-    let ha : start.args.old.upper < 2 ^ 32 = omega arith in
-    let hb : start.args.new.upper < 2 ^ 32 = omega arith in
-    (c.if1.false, busy start.args.old _ second.before.reduce.ensures.0 ha, busy start.args.new _ second.reduce2.ensures.0 hb)
+    let ha : c.before.before.before.before.before.args.old.upper < 2 ^ 32 = omega arith in
+    let hb : c.before.before.before.before.before.args.new.upper < 2 ^ 32 = omega arith in
+    (c.if-p-q.false, busy c.before.before.before.before.before.args.old _ c.before.before.before.before.reduce-p.ensures.0 ha, busy c.before.before.before.before.before.args.new _ c.before.before.before.reduce-q.ensures.0 hb)
 
-returns-2 : tie.Need-returns-2
+returns-2 : tie.Need-returns
 returns-2 c =
-    let second = c.before.before.before.before in
-    let start = second.before.before in
-    meets start.args.old start.args.new _
+    meets c.before.before.before.before.before.before.args.old c.before.before.before.before.before.before.args.new _
     (ap (λ (s : ℕ). Apart (Sample s)) c.tell_masks.ensures
-    ∙ by_masks start.args.old start.args.new _ _ second.before.reduce.ensures.0 second.reduce2.ensures.0 c.before.if1.false)
+    ∙ by_masks c.before.before.before.before.before.before.args.old c.before.before.before.before.before.before.args.new _ _ c.before.before.before.before.before.reduce-p.ensures.0 c.before.before.before.before.reduce-q.ensures.0 c.before.if-p-q.false)
 
-pub range-telling-spec : {M : Type 1} → statement M
-range-telling-spec =
+pub range_telling_spec : {M : Type 1} → statement M
+range_telling_spec =
     tie.close
     (tie.spec
     reduce-requires

@@ -30,33 +30,30 @@ equal : (a b : Range) → a.lower ≡ b.lower → a.upper ≡ b.upper → Alike 
 unfolding tell_bounds
 equal a b e h = rw (eq-eqb a.lower b.lower e, eq-eqb a.upper b.upper h)
 
-returns : tie.Need-returns
+returns : tie.Need-returns-then-a-b
 returns c =
-    let start = c.before.before.before.before.before in
-    let a = start.args.a in
+    let a = c.before.before.before.before.before.args.a in
     ap (λ (s : ℕ). Apart (Sample s)) (c.scatter.ensures ∙ ap (λ (v : ℕ). scattered 32 v a.mask) c.before.lesser.ensures)
-    ∙ by_lower a start.args.b c.before.before.if1.true
+    ∙ by_lower a c.before.before.before.before.before.args.b c.before.before.if-a-b.true
 
 greater-requires : tie.Need-greater-requires
 greater-requires c κs = search rules
 
-scatter-requires-2 : tie.Need-scatter-requires-2
+scatter-requires-2 : tie.Need-scatter-requires-then-a-b-2
 scatter-requires-2 c κs = search rules
 
-returns-2 : tie.Need-returns-2
+returns-2 : tie.Need-returns-then-a-b-2
 returns-2 c =
-    let start = c.before.before.before.before.before.before.before.before in
-    let a = start.args.a in
-    ap (λ (s : ℕ). Apart (Sample s)) (c.scatter2.ensures ∙ ap (λ (v : ℕ). scattered 32 v a.mask) c.before.greater.ensures)
-    ∙ by_upper a start.args.b c.before.before.before.before.before.if1.false c.before.before.if2.true
+    let a = c.before.before.before.before.before.before.before.before.args.a in
+    ap (λ (s : ℕ). Apart (Sample s)) (c.scatter-then-a-b-2.ensures ∙ ap (λ (v : ℕ). scattered 32 v a.mask) c.before.greater.ensures)
+    ∙ by_upper a c.before.before.before.before.before.before.before.before.args.b c.before.before.before.before.before.if-a-b.false c.before.before.if-a-b-2.true
 
-returns-3 : tie.Need-returns-3
+returns-3 : tie.Need-returns
 returns-3 c =
-    let start = c.before.before.before.before.before.before in
-    equal start.args.a start.args.b c.before.before.before.if1.false c.if2.false
+    equal c.before.before.before.before.before.before.args.a c.before.before.before.before.before.before.args.b c.before.before.before.if-a-b.false c.if-a-b-2.false
 
-pub tell-bounds-spec : {M : Type 1} → statement M
-tell-bounds-spec =
+pub tell_bounds_spec : {M : Type 1} → statement M
+tell_bounds_spec =
     tie.close
     (tie.spec
     lesser-requires

@@ -10,7 +10,7 @@ use Rattle.range_telling.specs.Telling.{turn_sample, tell_line}
 use Rattle.range_telling.proofs.telling.tell_line.Statement.{statement}
 use Rattle.range_telling.proofs.telling.tell_line.Tie as tie
 
-turn-sample-requires : tie.Need-turn-sample-requires
+turn-sample-requires : tie.Need-turn_sample-s-requires
 turn-sample-requires c κs = search rules
 
 hits-requires : tie.Need-hits-requires
@@ -19,7 +19,7 @@ hits-requires c κs = search rules
 hits-requires-2 : tie.Need-hits-requires-2
 hits-requires-2 c κs = search rules
 
-flip-line-requires : tie.Need-flip-line-requires
+flip-line-requires : tie.Need-flip_line-requires
 flip-line-requires c κs = search rules
 
 -- by the two hits of the sample
@@ -30,24 +30,20 @@ by_hits a b i s ha hb t es ea eb et =
     ap (λ (x : Bool). cond x (flip_line i s) s) (sym et ∙ ap₂ beq ea eb)
     ∙ ap (λ (x : ℕ). cond (beq (hit_of a x) (hit_of b x)) (flip_line i x) x) es
 
-returns : tie.Need-returns
+returns : tie.Need-returns-then-hits
 returns c =
-    let second = c.before.before in
-    let sampled = second.before.before in
-    let a = sampled.before.args in
-    c.flip-line.ensures
-    ∙ by_hits a.a a.b a.i _ _ _ true sampled.turn_sample.ensures second.before.hits.ensures second.hits2.ensures
-    c.before.if1.true
+    let a = c.before.before.before.before.before.args in
+    c.flip_line.ensures
+    ∙ by_hits a.a a.b a.i _ _ _ true c.before.before.before.before.turn_sample-s.ensures c.before.before.before.hits.ensures c.before.before.hits-2.ensures
+    c.before.if-hits.true
 
-returns-2 : tie.Need-returns-2
+returns-2 : tie.Need-returns
 returns-2 c =
-    let second = c.before in
-    let sampled = second.before.before in
-    let a = sampled.before.args in
-    by_hits a.a a.b a.i _ _ _ false sampled.turn_sample.ensures second.before.hits.ensures second.hits2.ensures c.if1.false
+    let a = c.before.before.before.before.args in
+    by_hits a.a a.b a.i _ _ _ false c.before.before.before.turn_sample-s.ensures c.before.before.hits.ensures c.before.hits-2.ensures c.if-hits.false
 
-pub tell-line-spec : {M : Type 1} → statement M
-tell-line-spec =
+pub tell_line_spec : {M : Type 1} → statement M
+tell_line_spec =
     tie.close
     (tie.spec
     turn-sample-requires

@@ -17,7 +17,7 @@ use Rattle.range_telling.proofs.Halving.{busy_parts}
 use Rattle.range_telling.proofs.telling.turn_sample.Statement.{statement}
 use Rattle.range_telling.proofs.telling.turn_sample.Tie as tie
 
-rank-requires : tie.Need-rank-requires
+rank-requires : tie.Need-rank-j-requires
 rank-requires c κs = search rules
 
 -- the bits of a busy range's bounds
@@ -27,10 +27,9 @@ even_upper r h n = ⊎_elim (λ odd. absurd (n odd)) (λ e. e) (busy_parts r h)
 rank_word : (i j mask : ℕ) → i < 32 → line mask i ≡ 1 → j ≡ ones_in i mask → j < 32
 rank_word i j mask hi hl e = let l = rank_lt 32 i mask hi hl in omega (arith, ones_in_le 32 mask)
 
-turn-value-requires : tie.Need-turn-value-requires
+turn-value-requires : tie.Need-turn_value-v-requires
 turn-value-requires c κs =
-    let start = c.before in
-    (rank_word _ _ _ start.requires.0 start.requires.1 c.rank.ensures, even_upper start.args.r start.requires.2)
+    (rank_word _ _ _ c.before.requires.0 c.before.requires.1 c.rank-j.ensures, even_upper c.before.args.r c.before.requires.2)
 
 scatter-requires : tie.Need-scatter-requires
 scatter-requires c κs = search rules
@@ -38,9 +37,8 @@ scatter-requires c κs = search rules
 returns : tie.Need-returns
 unfolding turn_sample
 returns c =
-    let ranked = c.before.before in
-    let r = ranked.before.args.r in
-    c.scatter.ensures ∙ ap (λ (v : ℕ). scattered 32 v r.mask) (c.before.turn_value.ensures ∙ ap (turn_value r.lower r.upper) ranked.rank.ensures)
+    let r = c.before.before.before.args.r in
+    c.scatter.ensures ∙ ap (λ (v : ℕ). scattered 32 v r.mask) (c.before.turn_value-v.ensures ∙ ap (turn_value r.lower r.upper) c.before.before.rank-j.ensures)
 
-pub turn-sample-spec : {M : Type 1} → statement M
-turn-sample-spec = tie.close (tie.spec rank-requires turn-value-requires scatter-requires returns)
+pub turn_sample_spec : {M : Type 1} → statement M
+turn_sample_spec = tie.close (tie.spec rank-requires turn-value-requires scatter-requires returns)

@@ -11,13 +11,13 @@ use Rattle.range_telling.specs.Telling.{turn_lower, turn_upper, turn_value}
 use Rattle.range_telling.proofs.telling.turn_value.Statement.{statement}
 use Rattle.range_telling.proofs.telling.turn_value.Tie as tie
 
-line-value-requires : tie.Need-line-value-requires
+line-value-requires : tie.Need-line_value-requires
 line-value-requires c κs = search rules
 
 spans-requires : tie.Need-spans-requires
 spans-requires c κs = search rules
 
-sub-result : tie.Need-overflow-sub-result
+sub-result : tie.Need-overflow_sub-result
 sub-result c = search rules
 
 -- by the answers of the tests
@@ -42,64 +42,56 @@ second d k w t e ew = rw (eq-eqb d k e) ew
 failed : (d k : ℕ) (w : Bool) → (d ≡ k → ⊥) → eqb d k && w ≡ false
 failed d k w n = rw (ne_eqb d k n)
 
-returns : tie.Need-returns
+returns : tie.Need-returns-then-spans
 returns c =
-    let lined = c.before.before.before in
-    let a = lined.before.before.args in
-    by_lower a.lower a.upper a.j _ _ true lined.before.if1.true lined.line-value.ensures c.before.spans.ensures
-    (second _ 0 _ true c.before.before.if2.true c.if3.true)
+    let a = c.before.before.before.before.before.args in
+    by_lower a.lower a.upper a.j _ _ true c.before.before.before.before.if-lower-eq1.true c.before.before.before.line_value.ensures c.before.spans.ensures
+    (second _ 0 _ true c.before.before.if-line_value-eq0.true c.if-spans.true)
 
-returns-2 : tie.Need-returns-2
+returns-2 : tie.Need-returns-else-spans
 returns-2 c =
-    let lined = c.before.before.before in
-    let a = lined.before.before.args in
-    by_lower a.lower a.upper a.j _ _ false lined.before.if1.true lined.line-value.ensures c.before.spans.ensures
-    (second _ 0 _ false c.before.before.if2.true c.if3.false)
+    let a = c.before.before.before.before.before.args in
+    by_lower a.lower a.upper a.j _ _ false c.before.before.before.before.if-lower-eq1.true c.before.before.before.line_value.ensures c.before.spans.ensures
+    (second _ 0 _ false c.before.before.if-line_value-eq0.true c.if-spans.false)
 
-returns-3 : tie.Need-returns-3
+returns-3 : tie.Need-returns-else-line_value-eq0
 returns-3 c =
-    let lined = c.before in
-    let a = lined.before.before.args in
-    by_lower a.lower a.upper a.j _ _ false lined.before.if1.true lined.line-value.ensures refl
-    (failed _ 0 (leb (2 ^ a.j) (a.upper - a.lower)) c.if2.false)
+    let a = c.before.before.before.args in
+    by_lower a.lower a.upper a.j _ _ false c.before.before.if-lower-eq1.true c.before.line_value.ensures refl
+    (failed _ 0 (leb (2 ^ a.j) (a.upper - a.lower)) c.if-line_value-eq0.false)
 
-line-value-requires-2 : tie.Need-line-value-requires-2
+line-value-requires-2 : tie.Need-line_value-requires-2
 line-value-requires-2 c κs = search rules
 
-spans-requires-2 : tie.Need-spans-requires-2
+spans-requires-2 : tie.Need-spans-requires-then-line_value-eq1
 spans-requires-2 c κs = search rules
 
-add-result : tie.Need-overflow-add-result
+add-result : tie.Need-overflow_add-result
 add-result c =
-    let lined = c.before.before.before in
-    let start = lined.before.before in
-    let even = start.requires.1 lined.before.if1.false in
-    let fits = start.ranges.upper.fits in
+    let even = c.before.before.before.before.before.requires.1 c.before.before.before.before.if-lower-eq1.false in
+    let fits = c.before.before.before.before.before.ranges.upper.fits in
     omega arith
 
-returns-4 : tie.Need-returns-4
+returns-4 : tie.Need-returns-then-spans-2
 returns-4 c =
-    let lined = c.before.before.before in
-    let a = lined.before.before.args in
-    by_upper a.lower a.upper a.j _ _ true lined.before.if1.false lined.line-value2.ensures c.before.spans2.ensures
-    (second _ 1 _ true c.before.before.if4.true c.if5.true)
+    let a = c.before.before.before.before.before.args in
+    by_upper a.lower a.upper a.j _ _ true c.before.before.before.before.if-lower-eq1.false c.before.before.before.line_value-2.ensures c.before.spans-then-line_value-eq1.ensures
+    (second _ 1 _ true c.before.before.if-line_value-eq1.true c.if-spans-2.true)
 
-returns-5 : tie.Need-returns-5
+returns-5 : tie.Need-returns-else-spans-2
 returns-5 c =
-    let lined = c.before.before.before in
-    let a = lined.before.before.args in
-    by_upper a.lower a.upper a.j _ _ false lined.before.if1.false lined.line-value2.ensures c.before.spans2.ensures
-    (second _ 1 _ false c.before.before.if4.true c.if5.false)
+    let a = c.before.before.before.before.before.args in
+    by_upper a.lower a.upper a.j _ _ false c.before.before.before.before.if-lower-eq1.false c.before.before.before.line_value-2.ensures c.before.spans-then-line_value-eq1.ensures
+    (second _ 1 _ false c.before.before.if-line_value-eq1.true c.if-spans-2.false)
 
-returns-6 : tie.Need-returns-6
+returns-6 : tie.Need-returns-else-line_value-eq1
 returns-6 c =
-    let lined = c.before in
-    let a = lined.before.before.args in
-    by_upper a.lower a.upper a.j _ _ false lined.before.if1.false lined.line-value2.ensures refl
-    (failed _ 1 (leb (2 ^ a.j) (a.upper - a.lower)) c.if4.false)
+    let a = c.before.before.before.args in
+    by_upper a.lower a.upper a.j _ _ false c.before.before.if-lower-eq1.false c.before.line_value-2.ensures refl
+    (failed _ 1 (leb (2 ^ a.j) (a.upper - a.lower)) c.if-line_value-eq1.false)
 
-pub turn-value-spec : {M : Type 1} → statement M
-turn-value-spec =
+pub turn_value_spec : {M : Type 1} → statement M
+turn_value_spec =
     tie.close
     (tie.spec
     line-value-requires

@@ -11,7 +11,7 @@ turned-requires-2 : tie.Need-turned-requires-2
 turned-requires-2 c κs = search rules
 
 returns : tie.Need-returns
-returns c = λ k h. of_class _ _ _ _ _ k c.before.before.requires (c.before.turned.ensures k h) (c.turned2.ensures k h)
+returns c = λ k h. of_class _ _ _ _ _ k c.before.before.requires (c.before.turned.ensures k h) (c.turned-2.ensures k h)
 
-pub class-set-spec : {M : Type 1} → statement M
-class-set-spec = tie.close (tie.spec turned-requires turned-requires-2 returns)
+pub class_set_spec : {M : Type 1} → statement M
+class_set_spec = tie.close (tie.spec turned-requires turned-requires-2 returns)

@@ -3,32 +3,32 @@ use borrow.Author.Rules.{rules}
 use Rattle.sum_telling.proofs.least.half_least.Statement.{statement}
 use Rattle.sum_telling.proofs.least.half_least.Tie as tie
 
-classes-least-requires : tie.Need-classes-least-requires
+classes-least-requires : tie.Need-classes_least-requires
 classes-least-requires c κs = search rules
 
-returns : tie.Need-returns
-returns c = c.classes-least.ensures
+returns : tie.Need-returns-then-a-c
+returns c = c.classes_least.ensures
 
-classes-least-requires-2 : tie.Need-classes-least-requires-2
+classes-least-requires-2 : tie.Need-classes_least-requires-then-b-d
 classes-least-requires-2 c κs = search rules
 
-returns-2 : tie.Need-returns-2
-returns-2 c = c.classes-least2.ensures
+returns-2 : tie.Need-returns-then-b-d
+returns-2 c = c.classes_least-then-b-d.ensures
 
-classes-least-requires-3 : tie.Need-classes-least-requires-3
+classes-least-requires-3 : tie.Need-classes_least-requires-then-m-n
 classes-least-requires-3 c κs = search rules
 
-returns-3 : tie.Need-returns-3
-returns-3 c = c.classes-least3.ensures
+returns-3 : tie.Need-returns-then-m-n
+returns-3 c = c.classes_least-then-m-n.ensures
 
-same-least-requires : tie.Need-same-least-requires
+same-least-requires : tie.Need-same_least-requires
 same-least-requires c κs = search rules
 
-returns-4 : tie.Need-returns-4
-returns-4 c = rw (← c.before.before.before.if1.false, ← c.before.before.if2.false, ← c.before.if3.false) c.same-least.ensures
+returns-4 : tie.Need-returns
+returns-4 c = rw (← c.before.before.before.if-a-c.false, ← c.before.before.if-b-d.false, ← c.before.if-m-n.false) c.same_least.ensures
 
-pub half-least-spec : {M : Type 1} → statement M
-half-least-spec =
+pub half_least_spec : {M : Type 1} → statement M
+half_least_spec =
     tie.close
     (tie.spec
     classes-least-requires

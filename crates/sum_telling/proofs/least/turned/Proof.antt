@@ -4,11 +4,11 @@ use Rattle.sum_telling.proofs.Chosen.{in_all, in_none}
 use Rattle.sum_telling.proofs.least.turned.Statement.{statement}
 use Rattle.sum_telling.proofs.least.turned.Tie as tie
 
-returns : tie.Need-returns
-returns c = λ k h. rw (eq-eqb _ _ c.if1.true) (in_none k h)
+returns : tie.Need-returns-then-answer-eq1
+returns c = λ k h. rw (eq-eqb _ _ c.if-answer-eq1.true) (in_none k h)
 
-returns-2 : tie.Need-returns-2
-returns-2 c = λ k h. rw (ne_eqb _ _ c.if1.false) (in_all k h)
+returns-2 : tie.Need-returns-else-answer-eq1
+returns-2 c = λ k h. rw (ne_eqb _ _ c.if-answer-eq1.false) (in_all k h)
 
-pub turned-spec : {M : Type 1} → statement M
-turned-spec = tie.close (tie.spec returns returns-2)
+pub turned_spec : {M : Type 1} → statement M
+turned_spec = tie.close (tie.spec returns returns-2)

@@ -8,61 +8,56 @@ use Rattle.sum_telling.proofs.Handed.{told_meets, old_no_sum, new_no_sum, sums_a
 use Rattle.sum_telling.proofs.numbers.told_of.Statement.{statement}
 use Rattle.sum_telling.proofs.numbers.told_of.Tie as tie
 
-is-sum-requires : tie.Need-is-sum-requires
+is-sum-requires : tie.Need-is_sum-requires
 is-sum-requires c κs = search rules
 
-returns : tie.Need-returns
-returns c = told_meets _ _ _ (old_no_sum _ _ (sym c.before.is_sum.ensures ∙ not-true _ c.if1.true))
+returns : tie.Need-returns-then-not-is_sum
+returns c = told_meets _ _ _ (old_no_sum _ _ (sym c.before.is_sum.ensures ∙ c.if-not-is_sum.true))
 
-is-sum-requires-2 : tie.Need-is-sum-requires-2
+is-sum-requires-2 : tie.Need-is_sum-requires-2
 is-sum-requires-2 c κs = search rules
 
-returns-2 : tie.Need-returns-2
+returns-2 : tie.Need-returns-then-not-is_sum-2
 returns-2 c =
-    let first = c.before.before in
     told_meets _ _ _
-    (new_no_sum _ _ (sym first.before.is_sum.ensures ∙ not-false _ first.if1.false) (sym c.before.is-sum2.ensures ∙ not-true _ c.if2.true))
+    (new_no_sum _ _ (sym c.before.before.before.is_sum.ensures ∙ c.before.before.if-not-is_sum.false) (sym c.before.is_sum-2.ensures ∙ c.if-not-is_sum-2.true))
 
-from-bytes-requires : tie.Need-from-bytes-requires
+from-bytes-requires : tie.Need-from_bytes-requires
 from-bytes-requires c κs = search rules
 
-words-of-requires : tie.Need-words-of-requires
+words-of-requires : tie.Need-words_of-v-requires
 words-of-requires c κs = search rules
 
-from-bytes-requires-2 : tie.Need-from-bytes-requires-2
+from-bytes-requires-2 : tie.Need-from_bytes-requires-2
 from-bytes-requires-2 c κs = search rules
 
-words-of-requires-2 : tie.Need-words-of-requires-2
+words-of-requires-2 : tie.Need-words_of-w-requires
 words-of-requires-2 c κs = search rules
 
-least-pattern-requires : tie.Need-least-pattern-requires
+least-pattern-requires : tie.Need-least_pattern-least-requires
 least-pattern-requires c κs = search rules
 
-cast-t10 : tie.Need-overflow-cast-t10
+cast-t10 : tie.Need-overflow_cast-result
 cast-t10 c = search rules
 
-returns-3 : tie.Need-returns-3
+returns-3 : tie.Need-returns-then-least-lt-NONE
 returns-3 c =
-    let second = c.before.before.before.before.before.before in
-    let first = second.before.before in
-    let v = c.before.before.before.before.words_of.ensures ∙ ap words_of c.before.before.before.before.before.from_bytes.ensures in
-    let w = c.before.before.words-of2.ensures ∙ ap words_of c.before.before.before.from-bytes2.ensures in
+    let v = c.before.before.before.before.words_of-v.ensures ∙ ap words_of c.before.before.before.before.before.from_bytes.ensures in
+    let w = c.before.before.words_of-w.ensures ∙ ap words_of c.before.before.before.from_bytes-2.ensures in
     told_meets _ _ _
-    (sums_apart _ _ (sym first.before.is_sum.ensures ∙ not-false _ first.if1.false) (sym second.before.is-sum2.ensures ∙ not-false _ second.if2.false) _
-    (rw (v, w) at c.before.least-pattern.ensures) c.if3.true)
+    (sums_apart _ _ (sym c.before.before.before.before.before.before.before.before.before.is_sum.ensures ∙ c.before.before.before.before.before.before.before.before.if-not-is_sum.false) (sym c.before.before.before.before.before.before.before.is_sum-2.ensures ∙ c.before.before.before.before.before.before.if-not-is_sum-2.false) _
+    (rw (v, w) at c.before.least_pattern-least.ensures) c.if-least-lt-NONE.true)
 
-returns-4 : tie.Need-returns-4
+returns-4 : tie.Need-returns-else-least-lt-NONE
 returns-4 c =
-    let second = c.before.before.before.before.before.before in
-    let first = second.before.before in
-    let v = c.before.before.before.before.words_of.ensures ∙ ap words_of c.before.before.before.before.before.from_bytes.ensures in
-    let w = c.before.before.words-of2.ensures ∙ ap words_of c.before.before.before.from-bytes2.ensures in
+    let v = c.before.before.before.before.words_of-v.ensures ∙ ap words_of c.before.before.before.before.before.from_bytes.ensures in
+    let w = c.before.before.words_of-w.ensures ∙ ap words_of c.before.before.before.from_bytes-2.ensures in
     told_meets _ _ _
-    (sums_alike _ _ (sym first.before.is_sum.ensures ∙ not-false _ first.if1.false) (sym second.before.is-sum2.ensures ∙ not-false _ second.if2.false) _
-    (rw (v, w) at c.before.least-pattern.ensures) c.if3.false)
+    (sums_alike _ _ (sym c.before.before.before.before.before.before.before.before.before.is_sum.ensures ∙ c.before.before.before.before.before.before.before.before.if-not-is_sum.false) (sym c.before.before.before.before.before.before.before.is_sum-2.ensures ∙ c.before.before.before.before.before.before.if-not-is_sum-2.false) _
+    (rw (v, w) at c.before.least_pattern-least.ensures) c.if-least-lt-NONE.false)
 
-pub told-of-spec : {M : Type 1} → statement M
-told-of-spec =
+pub told_of_spec : {M : Type 1} → statement M
+told_of_spec =
     tie.close
     (tie.spec
     is-sum-requires

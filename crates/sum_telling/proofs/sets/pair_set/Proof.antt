@@ -33,12 +33,12 @@ returns : tie.Need-returns
 returns c =
     λ k h.
     let a = c.before.before.before.before.before.before.before.args in
-    three_choices a.a a.b _ _ _ _ _ _ _ k (c.before.before.before.before.choose.ensures k) (c.before.choose2.ensures k) (c.choose3.ensures k) _ _ _ _ (c.before.before.before.before.before.before.spread.ensures k h)
-    (c.before.before.before.before.before.spread2.ensures k h) (c.before.before.before.spread3.ensures k h) (c.before.before.spread4.ensures k h)
+    three_choices a.a a.b _ _ _ _ _ _ _ k (c.before.before.before.before.choose.ensures k) (c.before.choose-2.ensures k) (c.choose-3.ensures k) _ _ _ _ (c.before.before.before.before.before.before.spread.ensures k h)
+    (c.before.before.before.before.before.spread-2.ensures k h) (c.before.before.before.spread-3.ensures k h) (c.before.before.spread-4.ensures k h)
     ∙ pick_pair (answer_at a.table) (line a.a k) (line a.b k) (omega arith) (omega arith)
 
-pub pair-set-spec : {M : Type 1} → statement M
-pair-set-spec =
+pub pair_set_spec : {M : Type 1} → statement M
+pair_set_spec =
     tie.close
     (tie.spec
     spread-requires

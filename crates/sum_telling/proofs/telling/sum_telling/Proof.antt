@@ -6,30 +6,28 @@ use Rattle.sum_telling.proofs.Theorems.{telling_meets}
 use Rattle.sum_telling.proofs.telling.sum_telling.Statement.{statement}
 use Rattle.sum_telling.proofs.telling.sum_telling.Tie as tie
 
-words-of-requires : tie.Need-words-of-requires
+words-of-requires : tie.Need-words_of-requires
 words-of-requires c κs = search rules
 
-words-of-requires-2 : tie.Need-words-of-requires-2
+words-of-requires-2 : tie.Need-words_of-requires-2
 words-of-requires-2 c κs = search rules
 
-least-pattern-requires : tie.Need-least-pattern-requires
+least-pattern-requires : tie.Need-least_pattern-least-requires
 least-pattern-requires c κs = search rules
 
-returns : tie.Need-returns
+returns : tie.Need-returns-then-least-lt-NONE
 returns c =
-    let found = c.before in
-    let a = found.before.before.before.args in
-    let e = rw (found.before.before.words_of.ensures, found.before.words-of2.ensures) at found.least-pattern.ensures in
-    telling_meets a.old a.new _ (told_apart a.old a.new _ e c.if1.true)
+    let a = c.before.before.before.before.args in
+    let e = rw (c.before.before.before.words_of.ensures, c.before.before.words_of-2.ensures) at c.before.least_pattern-least.ensures in
+    telling_meets a.old a.new _ (told_apart a.old a.new _ e c.if-least-lt-NONE.true)
 
-returns-2 : tie.Need-returns-2
+returns-2 : tie.Need-returns-else-least-lt-NONE
 returns-2 c =
-    let found = c.before in
-    let a = found.before.before.before.args in
-    let e = rw (found.before.before.words_of.ensures, found.before.words-of2.ensures) at found.least-pattern.ensures in
-    telling_meets a.old a.new _ (told_alike a.old a.new _ e c.if1.false)
+    let a = c.before.before.before.before.args in
+    let e = rw (c.before.before.before.words_of.ensures, c.before.before.words_of-2.ensures) at c.before.least_pattern-least.ensures in
+    telling_meets a.old a.new _ (told_alike a.old a.new _ e c.if-least-lt-NONE.false)
 
-pub sum-telling-spec : {M : Type 1} → statement M
-sum-telling-spec =
+pub sum_telling_spec : {M : Type 1} → statement M
+sum_telling_spec =
     tie.close
     (tie.spec words-of-requires words-of-requires-2 least-pattern-requires returns returns-2)
