@@ -7,68 +7,62 @@ use Rattle.kinds.specs.Table.{kind_of, telling_of}
 use Rattle.kinds.proofs.describe.telling_of.Statement.{statement}
 use Rattle.kinds.proofs.describe.telling_of.Tie as tie
 
-telling-of-requires : tie.Need-telling-of-requires
+telling-of-requires : tie.Need-telling_of-requires
 telling-of-requires c κs = search rules
 
-telling-of-requires-2 : tie.Need-telling-of-requires-2
+telling-of-requires-2 : tie.Need-telling_of-requires-in-1
 telling-of-requires-2 c κs = search rules
 
-telling-of-requires-3 : tie.Need-telling-of-requires-3
+telling-of-requires-3 : tie.Need-telling_of-requires-in-2
 telling-of-requires-3 c κs = search rules
 
-telling-of-requires-4 : tie.Need-telling-of-requires-4
+telling-of-requires-4 : tie.Need-telling_of-requires-in-3
 telling-of-requires-4 c κs = search rules
 
-returns : tie.Need-returns
+returns : tie.Need-returns-in-0
 unfolding telling_of kind_of
 returns c =
-    let known = c.before.before in
-    let a = known.before.before.args in
-    told a.section a.old.now a.new.now _ (λ i. omega (arith, known.before.shared-slice-known.given i)) (λ i. omega (arith, known.shared-slice-known2.given i))
-    (rw c.before.match.keys1 c.telling-of.ensures.0)
+    let a = c.before.before.before.before.args in
+    told a.section a.old.now a.new.now _ (λ i. omega (arith, c.before.before.before.shared_slice_known-1.given i)) (λ i. omega (arith, c.before.before.shared_slice_known-2-1.given i))
+    (rw c.before.in-0.is c.telling_of.ensures.0)
 
-returns-2 : tie.Need-returns-2
+returns-2 : tie.Need-returns-in-1
 unfolding telling_of kind_of
 returns-2 c =
-    let known = c.before.before in
-    let a = known.before.before.args in
-    told a.section a.old.now a.new.now _ (λ i. omega (arith, known.before.shared-slice-known.given i)) (λ i. omega (arith, known.shared-slice-known2.given i))
-    (rw c.before.match.keys2 c.telling-of2.ensures.0)
+    let a = c.before.before.before.before.args in
+    told a.section a.old.now a.new.now _ (λ i. omega (arith, c.before.before.before.shared_slice_known-1.given i)) (λ i. omega (arith, c.before.before.shared_slice_known-2-1.given i))
+    (rw c.before.in-1.is c.telling_of-in-1.ensures.0)
 
-returns-3 : tie.Need-returns-3
+returns-3 : tie.Need-returns-in-2
 unfolding telling_of kind_of
 returns-3 c =
-    let known = c.before.before in
-    let a = known.before.before.args in
-    told a.section a.old.now a.new.now _ (λ i. omega (arith, known.before.shared-slice-known.given i)) (λ i. omega (arith, known.shared-slice-known2.given i))
-    (rw c.before.match.keys3 c.telling-of3.ensures.0)
+    let a = c.before.before.before.before.args in
+    told a.section a.old.now a.new.now _ (λ i. omega (arith, c.before.before.before.shared_slice_known-1.given i)) (λ i. omega (arith, c.before.before.shared_slice_known-2-1.given i))
+    (rw c.before.in-2.is c.telling_of-in-2.ensures.0)
 
-returns-4 : tie.Need-returns-4
+returns-4 : tie.Need-returns-in-3
 unfolding telling_of kind_of
 returns-4 c =
-    let known = c.before.before in
-    let a = known.before.before.args in
-    told a.section a.old.now a.new.now _ (λ i. omega (arith, known.before.shared-slice-known.given i)) (λ i. omega (arith, known.shared-slice-known2.given i))
-    (rw c.before.match.keys4 c.telling-of4.ensures.0)
+    let a = c.before.before.before.before.args in
+    told a.section a.old.now a.new.now _ (λ i. omega (arith, c.before.before.before.shared_slice_known-1.given i)) (λ i. omega (arith, c.before.before.shared_slice_known-2-1.given i))
+    (rw c.before.in-3.is c.telling_of-in-3.ensures.0)
 
-returns-5 : tie.Need-returns-5
+returns-5 : tie.Need-returns-in-4
 unfolding telling_of kind_of
 returns-5 c =
-    let known = c.before in
-    let a = known.before.before.args in
-    told a.section a.old.now a.new.now _ (λ i. omega (arith, known.before.shared-slice-known.given i)) (λ i. omega (arith, known.shared-slice-known2.given i))
-    (rw c.match.keys5)
+    let a = c.before.before.before.args in
+    told a.section a.old.now a.new.now _ (λ i. omega (arith, c.before.before.shared_slice_known-1.given i)) (λ i. omega (arith, c.before.shared_slice_known-2-1.given i))
+    (rw c.in-4.is)
 
-returns-6 : tie.Need-returns-6
+returns-6 : tie.Need-returns-in_default
 unfolding telling_of kind_of
 returns-6 c =
-    let known = c.before in
-    let a = known.before.before.args in
-    told a.section a.old.now a.new.now _ (λ i. omega (arith, known.before.shared-slice-known.given i)) (λ i. omega (arith, known.shared-slice-known2.given i))
-    (rw (past a.section (omega (arith, c.match.rest))))
+    let a = c.before.before.before.args in
+    told a.section a.old.now a.new.now _ (λ i. omega (arith, c.before.before.shared_slice_known-1.given i)) (λ i. omega (arith, c.before.shared_slice_known-2-1.given i))
+    (rw (past a.section (omega (arith, c.in_default.in_default-own.rest))))
 
-pub telling-of-spec : {M : Type 1} → statement M
-telling-of-spec =
+pub telling_of_spec : {M : Type 1} → statement M
+telling_of_spec =
     tie.close
     (tie.spec
     telling-of-requires

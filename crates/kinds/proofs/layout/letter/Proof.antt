@@ -5,11 +5,11 @@ use Rattle.kinds.specs.declared.Row.{Row}
 use Rattle.kinds.proofs.layout.letter.Statement.{statement}
 use Rattle.kinds.proofs.layout.letter.Tie as tie
 
-row-of-requires : tie.Need-row-of-requires
+row-of-requires : tie.Need-row_of-row-requires
 row-of-requires c κs = search rules
 
 returns : tie.Need-returns
-returns c = ap (λ (r : Row). r.letter) c.row_of.ensures
+returns c = ap (λ (r : Row). r.letter) c.row_of-row.ensures
 
-pub letter-spec : {M : Type 1} → statement M
-letter-spec = tie.close (tie.spec row-of-requires returns)
+pub letter_spec : {M : Type 1} → statement M
+letter_spec = tie.close (tie.spec row-of-requires returns)

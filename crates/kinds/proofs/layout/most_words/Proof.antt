@@ -8,5 +8,5 @@ returns : tie.Need-returns
 unfolding most_words_from chain_count chain_length kind_of
 returns c = refl
 
-pub most-words-spec : {M : Type 1} → statement M
-most-words-spec = tie.close (tie.spec returns)
+pub most_words_spec : {M : Type 1} → statement M
+most_words_spec = tie.close (tie.spec returns)
