@@ -7,7 +7,7 @@ use native.Mathlib.Numerals.{one-add}
 use native.Mathlib.Omega.{arith}
 use Prim.Native.Nat.{ℕ, zero, suc, ◌+◌, ◌*◌, ◌≤◌, ◌<◌}
 use mathlib.Core.List.{List, [], ◌∷◌, ◌++◌, append_assoc}
-use mathlib.Core.Path.{◌≡◌, refl, sym, ap, ◌∙◌}
+use mathlib.Core.Path.{◌≡◌, refl, sym, ap, subst, ◌∙◌}
 use lib.ListN.{length, get_or, take, drop, length-append, take-append-drop}
 use lib.Seq.{take_at, drop_at, drop-drop}
 use Rattle.buffer.specs.Verdict.{refuse_fault}
@@ -16,7 +16,7 @@ use Rattle.buffer.proofs.Faults.{and_then_accepted, refuse_if_accepted, refuse_f
 use Rattle.records.specs.Sections.{sections, most_of, record_size, section_size}
 use Rattle.sheet.specs.Reading.{least_slot, record_fault, next_record, records_verdict, section_verdict, sections_verdict, verdict}
 use Rattle.records.specs.Records.{records_from}
-use Rattle.sheet.specs.Parsed.{joined, render, Ordered, Sections, WellFormed, sections_from, parse}
+use Rattle.sheet.specs.Parsed.{Faultless, joined, render, Ordered, Sections, WellFormed, sections_from, parse}
 use Rattle.sheet.proofs.Faults.{no_fault}
 use Rattle.sheet.proofs.Labels.{Fresh, fresh_differ, differ_fresh, records_length}
 use Rattle.sheet.proofs.Reading.{then_next, next_faultless, counted, records_accepted, count_fits}
@@ -35,14 +35,24 @@ joined_length {k} Ordered.done = sym (zero-mul (record_size k))
 joined_length {k} (Ordered.next {r = r} {rs = rs} f o) =
     rw (length-append r (joined rs), f.whole, joined_length o, suc-mul (length rs) (record_size k)) (add_comm (record_size k) (length rs * record_size k))
 
+-- such records are accepted, whatever follows; the least slot is given by an equation
+ordered_from : {k floor : ℕ} {before rs : List (List ℕ)} → Ordered k floor rs → floor ≡ least_slot before → Fresh before rs → (at : ℕ) (rest : List ℕ)
+    → records_verdict k (length rs) before at (joined rs ++ rest) ≡ Accepted
+unfolding joined records_verdict
+ordered_from Ordered.done e Fresh.done at rest = refl
+ordered_from {k} {floor} {before} (Ordered.next {r = r} {rs = rs} f o) e (Fresh.next new more) at rest =
+    rw (
+      append_assoc r (joined rs) rest,
+      take_at r (joined rs ++ rest) (record_size k) f.whole,
+      drop_at r (joined rs ++ rest) (record_size k) f.whole,
+      no_fault k before r (subst (λ (n : ℕ). Faultless k n r) e f) new,
+    )
+    (ordered_from o refl more (at + record_size k) rest)
+
 -- such records are accepted, whatever follows
 pub ordered_accepted : {k : ℕ} {before rs : List (List ℕ)} → Ordered k (least_slot before) rs → Fresh before rs → (at : ℕ) (rest : List ℕ)
     → records_verdict k (length rs) before at (joined rs ++ rest) ≡ Accepted
-unfolding joined records_verdict
-ordered_accepted Ordered.done Fresh.done at rest = refl
-ordered_accepted {k} {before} (Ordered.next {r = r} {rs = rs} f o) (Fresh.next new more) at rest =
-    rw (append_assoc r (joined rs) rest, take_at r (joined rs ++ rest) (record_size k) f.whole, drop_at r (joined rs ++ rest) (record_size k) f.whole, no_fault k before r f new)
-    (ordered_accepted o more (at + record_size k) rest)
+ordered_accepted o fresh at rest = ordered_from o refl fresh at rest
 
 -- and they are read back
 pub ordered_read : {k floor : ℕ} {rs : List (List ℕ)} → Ordered k floor rs → (rest : List ℕ) → records_from k (length rs) (joined rs ++ rest) ≡ rs

@@ -6,14 +6,14 @@ use lib.ListN.{length}
 use Rattle.decimal.proofs.is_decimal.Statement.{statement}
 use Rattle.decimal.proofs.is_decimal.Tie as tie
 
-returns : tie.Need-returns
+returns : tie.Need-returns-then-word-eq0
 returns c = simp (le-ltb 0 (length c.before.before.args.word.now) (omega arith))
 
-all-within-requires : tie.Need-all-within-requires
+all-within-requires : tie.Need-all_within-requires
 all-within-requires c κs = search rules
 
-returns-2 : tie.Need-returns-2
-returns-2 c = simp (lt-ltb 0 (length c.before.before.before.args.word.now) (omega arith)) c.all-within.ensures
+returns-2 : tie.Need-returns
+returns-2 c = simp (lt-ltb 0 (length c.before.before.before.args.word.now) (omega arith)) c.all_within.ensures
 
-pub is-decimal-spec : {M : Type 1} → statement M
-is-decimal-spec = tie.close (tie.spec returns all-within-requires returns-2)
+pub is_decimal_spec : {M : Type 1} → statement M
+is_decimal_spec = tie.close (tie.spec returns all-within-requires returns-2)

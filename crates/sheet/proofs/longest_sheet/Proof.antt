@@ -9,5 +9,5 @@ returns : tie.Need-returns
 unfolding longest_from most_of description_size kind_of
 returns c = refl
 
-pub longest-sheet-spec : {M : Type 1} → statement M
-longest-sheet-spec = tie.close (tie.spec returns)
+pub longest_sheet_spec : {M : Type 1} → statement M
+longest_sheet_spec = tie.close (tie.spec returns)

@@ -15,5 +15,5 @@ prefix-requires c κs = search rules
 returns : tie.Need-returns
 returns c = c.prefix.ensures ∙ ap (take label_size) c.before.suffix.ensures
 
-pub label-spec : {M : Type 1} → statement M
-label-spec = tie.close (tie.spec suffix-requires prefix-requires returns)
+pub label_spec : {M : Type 1} → statement M
+label_spec = tie.close (tie.spec suffix-requires prefix-requires returns)

@@ -8,16 +8,16 @@ use Rattle.records.specs.Sections.{label_size, label_of, description_of}
 use Rattle.records.proofs.fields.sum_record.Statement.{statement}
 use Rattle.records.proofs.fields.sum_record.Tie as tie
 
-slice-aggregate-put-bytes : tie.Need-slice-aggregate-put-bytes
+slice-aggregate-put-bytes : tie.Need-slice_bounds-put_bytes-end
 slice-aggregate-put-bytes c = search rules
 
 label-requires : tie.Need-label-requires
 label-requires c κs = search rules
 
-put-bytes-requires : tie.Need-put-bytes-requires
+put-bytes-requires : tie.Need-put_bytes-requires
 put-bytes-requires c κs = search rules
 
-slice-aggregate-put-bytes-2 : tie.Need-slice-aggregate-put-bytes-2
+slice-aggregate-put-bytes-2 : tie.Need-slice_bounds-put_bytes-end-2
 slice-aggregate-put-bytes-2 c = search rules
 
 description-requires : tie.Need-description-requires
@@ -26,7 +26,7 @@ description-requires c κs = search rules
 prefix-requires : tie.Need-prefix-requires
 prefix-requires c κs = search rules
 
-put-bytes-requires-2 : tie.Need-put-bytes-requires-2
+put-bytes-requires-2 : tie.Need-put_bytes-requires-2
 put-bytes-requires-2 c κs = search rules
 
 slot-requires : tie.Need-slot-requires
@@ -38,13 +38,13 @@ returns c =
     let l : c.before.before.before.before.before.before.before.before.label.result.now ≡ label_of s = c.before.before.before.before.before.before.before.before.label.ensures in
     let d : c.before.before.before.prefix.result.now ≡ take 11 (description_of s) = c.before.before.before.prefix.ensures ∙ ap (take 11) c.before.before.before.before.description.ensures in
     let one = filled (label_of s) (replicate label_size 0) _ _ (omega (arith, length-take label_size (drop 1 s)))
-    (rw l at c.before.before.before.before.before.before.before.put-bytes.ensures) in
+    (rw l at c.before.before.before.before.before.before.before.put_bytes.ensures) in
     let two = filled (take 11 (description_of s)) (replicate 11 0) _ _ (omega (arith, length-take 11 (description_of s)))
-    (rw d at c.before.before.put-bytes2.ensures) in
+    (rw d at c.before.before.put_bytes-2.ensures) in
     rw (c.slot.ensures, one, two)
 
-pub sum-record-spec : {M : Type 1} → statement M
-sum-record-spec =
+pub sum_record_spec : {M : Type 1} → statement M
+sum_record_spec =
     tie.close
     (tie.spec
     slice-aggregate-put-bytes

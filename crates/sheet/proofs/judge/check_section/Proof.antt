@@ -10,41 +10,41 @@ use Rattle.sheet.proofs.Reading.{section_short, section_many, section_records}
 use Rattle.sheet.proofs.judge.check_section.Statement.{statement}
 use Rattle.sheet.proofs.judge.check_section.Tie as tie
 
-returns : tie.Need-returns
+returns : tie.Need-returns-then-sheet-at
 returns c =
     let a = c.before.before.args in
-    sym (section_short a.section a.at a.sheet.now c.if1.true)
+    sym (section_short a.section a.at a.sheet.now c.if-sheet-at.true)
 
-byte-at-requires : tie.Need-byte-at-requires
+byte-at-requires : tie.Need-byte_at-count-requires
 byte-at-requires c κs = search rules
 
-cast-count : tie.Need-overflow-cast-count
+cast-count : tie.Need-overflow_cast-count
 cast-count c = search rules
 
 most-requires : tie.Need-most-requires
 most-requires c κs = search rules
 
-returns-2 : tie.Need-returns-2
+returns-2 : tie.Need-returns-then-most-count
 returns-2 c =
     let a = c.before.before.before.before.before.args in
     sym (section_many a.section a.at a.sheet.now (omega arith) (omega arith))
 
-add-check-records : tie.Need-overflow-add-check-records
+add-check-records : tie.Need-overflow_add-at
 add-check-records c = search rules
 
-check-records-requires : tie.Need-check-records-requires
+check-records-requires : tie.Need-check_records-requires
 check-records-requires c κs = search rules
 
-returns-3 : tie.Need-returns-3
+returns-3 : tie.Need-returns
 returns-3 c =
     let a = c.before.before.before.before.before.before.args in
     let s = a.sheet.now in
-    c.check-records.ensures
-    ∙ ap (λ (n : ℕ). records_verdict a.section n [] (a.at + 1) (drop (a.at + 1) s)) c.before.before.before.byte_at.ensures
+    c.check_records.ensures
+    ∙ ap (λ (n : ℕ). records_verdict a.section n [] (a.at + 1) (drop (a.at + 1) s)) c.before.before.before.byte_at-count.ensures
     ∙ sym (section_records a.section a.at s (omega arith) (omega arith))
 
-pub check-section-spec : {M : Type 1} → statement M
-check-section-spec =
+pub check_section_spec : {M : Type 1} → statement M
+check_section_spec =
     tie.close
     (tie.spec
     returns

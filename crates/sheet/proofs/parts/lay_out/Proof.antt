@@ -10,65 +10,65 @@ use Rattle.sheet.proofs.Laid.{Laid, laid_start, laid_fits, laid_on, laid_end}
 use Rattle.sheet.proofs.parts.lay_out.Statement.{statement}
 use Rattle.sheet.proofs.parts.lay_out.Tie as tie
 
-abbrev invariant-loop : tie.invariant-loop
+abbrev invariant-loop : tie.invariant-loop-section
 invariant-loop sheet starts₀ sizes₀ at₀ section₀ starts sizes at section = Laid sheet starts sizes at section
 
-abbrev decreases-loop : tie.decreases-loop
+abbrev decreases-loop : tie.decreases-loop-section
 decreases-loop sheet starts₀ sizes₀ at₀ section₀ starts sizes at section = sections - section
 
 -- how many bytes the section has, its count included
-size : (c : tie.After-section-size invariant-loop decreases-loop) → let l = c.before.before.before.loop in
-    c.section-size.result ≡ section_size l.section (count_of c.before.before.before.before.before.args.sheet.now l.section)
+size : (c : tie.After-section_size-size invariant-loop decreases-loop) → let l = c.before.before.before.loop-section in
+    c.section_size-size.result ≡ section_size l.section (count_of c.before.before.before.before.before.args.sheet.now l.section)
 unfolding count_of
 size c =
-    let l = c.before.before.before.loop in
+    let l = c.before.before.before.loop-section in
     let s = c.before.before.before.before.before.args.sheet.now in
-    c.section-size.ensures ∙ ap (section_size l.section) (c.before.byte_at.ensures ∙ ap (λ (i : ℕ). get_or s i 0) l.invariant.here)
+    c.section_size-size.ensures ∙ ap (section_size l.section) (c.before.byte_at.ensures ∙ ap (λ (i : ℕ). get_or s i 0) l.invariant.here)
 
-loop-holds : tie.Need-loop-init invariant-loop decreases-loop
+loop-holds : tie.Need-loop-section-init invariant-loop decreases-loop
 loop-holds c = laid_start _
 
-byte-at-requires : tie.Need-byte-at-requires invariant-loop decreases-loop
+byte-at-requires : tie.Need-byte_at-requires invariant-loop decreases-loop
 byte-at-requires c κs = search rules
 
-section-size-requires : tie.Need-section-size-requires invariant-loop decreases-loop
+section-size-requires : tie.Need-section_size-size-requires invariant-loop decreases-loop
 section-size-requires c κs = search rules
 
-add-starts : tie.Need-overflow-add-starts invariant-loop decreases-loop
-add-starts c = let l = c.before.before.before.loop in omega (arith, laid_fits _ _ _ _ _ _ l.invariant (omega arith) c.before.before.before.before.before.requires (size c), size c)
+add-starts : tie.Need-overflow_add-starts invariant-loop decreases-loop
+add-starts c = let l = c.before.before.before.loop-section in omega (arith, laid_fits _ _ _ _ _ _ l.invariant (omega arith) c.before.before.before.before.before.requires (size c), size c)
 
-mul-starts : tie.Need-overflow-mul-starts invariant-loop decreases-loop
+mul-starts : tie.Need-offset_bounds-starts-section invariant-loop decreases-loop
 mul-starts c = search rules
 
-array-write-starts : tie.Need-array-write-starts invariant-loop decreases-loop
+array-write-starts : tie.Need-bounds-starts-section invariant-loop decreases-loop
 array-write-starts c = search rules
 
-sub-sizes : tie.Need-overflow-sub-sizes invariant-loop decreases-loop
+sub-sizes : tie.Need-overflow_sub-sizes invariant-loop decreases-loop
 sub-sizes c = omega (arith, size c)
 
-mul-sizes : tie.Need-overflow-mul-sizes invariant-loop decreases-loop
+mul-sizes : tie.Need-offset_bounds-sizes-section invariant-loop decreases-loop
 mul-sizes c = search rules
 
-array-write-sizes : tie.Need-array-write-sizes invariant-loop decreases-loop
+array-write-sizes : tie.Need-bounds-sizes-section invariant-loop decreases-loop
 array-write-sizes c = search rules
 
-add_at : tie.Need-overflow-add-at invariant-loop decreases-loop
-add_at c = let l = c.before.before.before.loop in omega (arith, laid_fits _ _ _ _ _ _ l.invariant (omega arith) c.before.before.before.before.before.requires (size c))
+add_at : tie.Need-overflow_add-at invariant-loop decreases-loop
+add_at c = let l = c.before.before.before.loop-section in omega (arith, laid_fits _ _ _ _ _ _ l.invariant (omega arith) c.before.before.before.before.before.requires (size c))
 
-add-section : tie.Need-overflow-add-section invariant-loop decreases-loop
+add-section : tie.Need-overflow_add-section invariant-loop decreases-loop
 add-section c = search rules
 
-loop-less : tie.Need-loop-smaller invariant-loop decreases-loop
+loop-less : tie.Need-loop-section-smaller invariant-loop decreases-loop
 loop-less c = omega arith
 
-loop-again : tie.Need-loop-preserved invariant-loop decreases-loop
-loop-again c = let l = c.before.before.before.loop in laid_on _ _ _ _ _ _ l.invariant (omega arith) c.before.before.before.before.before.requires (size c)
+loop-again : tie.Need-loop-section-preserved invariant-loop decreases-loop
+loop-again c = let l = c.before.before.before.loop-section in laid_on _ _ _ _ _ _ l.invariant (omega arith) c.before.before.before.before.before.requires (size c)
 
 returns : tie.Need-returns invariant-loop decreases-loop
-returns c = let l = c.before.loop in laid_end _ _ _ _ _ l.invariant (omega arith) c.before.before.before.requires
+returns c = let l = c.before.loop-section in laid_end _ _ _ _ _ l.invariant (omega arith) c.before.before.before.requires
 
-pub lay-out-spec : {M : Type 1} → statement M
-lay-out-spec =
+pub lay_out_spec : {M : Type 1} → statement M
+lay_out_spec =
     tie.close
     (tie.spec
     invariant-loop
