@@ -10,5 +10,5 @@ returns : tie.Need-returns
 unfolding longest_by most_of item_size size_of lengths_of chain_count chain_length kind_of
 returns c = refl
 
-pub longest-stream-spec : {M : Type 1} → statement M
-longest-stream-spec = tie.close (tie.spec returns)
+pub longest_stream_spec : {M : Type 1} → statement M
+longest_stream_spec = tie.close (tie.spec returns)

@@ -28,57 +28,55 @@ words_there k d e room₀ room r same l w =
 description-requires : tie.Need-description-requires
 description-requires c κs = search rules
 
-put-words-requires : tie.Need-put-words-requires
+put-words-requires : tie.Need-put_words-requires
 put-words-requires c κs = search rules
 
 slot-requires : tie.Need-slot-requires
 slot-requires c κs = search rules
 
-address-requires : tie.Need-address-requires
+address-requires : tie.Need-address-address-requires
 address-requires c κs = search rules
 
-row-of-requires : tie.Need-row-of-requires
+row-of-requires : tie.Need-row_of-row-requires
 row-of-requires c κs = search rules
 
-put-chains-requires : tie.Need-put-chains-requires
+put-chains-requires : tie.Need-put_chains-requires
 put-chains-requires c κs =
-    let start = c.before.before.before.before.before.before.before.before.before.before.before.before.before in
-    let r : List ℕ = start.args.rec.now in
-    let k : ℕ = start.args.section in
-    let row = c.before.before.row_of in
-    let address = c.before.before.before.address.ensures ∙ ap (address_of k) c.before.before.before.before.slot.ensures in
+    let r : List ℕ = c.before.before.before.before.before.before.before.before.before.before.before.before.args.rec.now in
+    let k : ℕ = c.before.before.before.before.before.before.before.before.before.before.before.before.args.section in
+    let row = c.before.row_of-row in
+    let address = c.before.before.address-address.ensures ∙ ap (address_of k) c.before.before.before.slot.ensures in
     let chains = ap (λ (x : Row). x.chains) row.ensures in
     let each = ap (λ (x : Row). x.each) row.ensures in
-    let words = words_there k (description_of r) _ _ _ _ c.before.before.before.before.before.before.before.before.description.ensures start.requires.1 c.before.before.before.before.before.before.before.put-words.ensures in
-    let more : List ℕ = drop (length (words_of k (description_of r))) start.args.words.now in (
-      omega (arith, address, address_small k (slot_of r) (section_known k (slot_of r) start.requires.0.slot_fits) start.requires.0.slot_fits),
+    let words = words_there k (description_of r) _ _ _ _ c.before.before.before.before.before.before.before.description.ensures c.before.before.before.before.before.before.before.before.before.before.before.before.requires.1 c.before.before.before.before.before.before.put_words.ensures in
+    let more : List ℕ = drop (length (words_of k (description_of r))) c.before.before.before.before.before.before.before.before.before.before.before.before.args.words.now in (
+      omega (arith, address, address_small k (slot_of r) (section_known k (slot_of r) c.before.before.before.before.before.before.before.before.before.before.before.before.requires.0.slot_fits) c.before.before.before.before.before.before.before.before.before.before.before.before.requires.0.slot_fits),
       omega (arith, chains, chains_few k),
       omega (arith, each, chain_short k),
       room_fits k (description_of r) _ _ _ more chains each words,
     )
 
-same_length : tie.Need-same-length
+same_length : tie.Need-shape_of-out
 same_length c = search rules
 
-same-length-2 : tie.Need-same-length-2
+same-length-2 : tie.Need-shape_of-words
 same-length-2 c = search rules
 
 returns : tie.Need-returns
 returns c =
-    let start = c.before.before.before.before.before.before.before.before.before.before.before.before.before.before.before.before in
-    let r : List ℕ = start.args.rec.now in
-    let k : ℕ = start.args.section in
-    let row = c.before.before.before.before.before.row_of in
-    let address = c.before.before.before.before.before.before.address.ensures ∙ ap (address_of k) c.before.before.before.before.before.before.before.slot.ensures in
+    let r : List ℕ = c.before.before.before.before.before.before.before.before.before.before.before.before.before.before.before.args.rec.now in
+    let k : ℕ = c.before.before.before.before.before.before.before.before.before.before.before.before.before.before.before.args.section in
+    let row = c.before.before.before.before.row_of-row in
+    let address = c.before.before.before.before.before.address-address.ensures ∙ ap (address_of k) c.before.before.before.before.before.before.slot.ensures in
     let chains = ap (λ (x : Row). x.chains) row.ensures in
     let each = ap (λ (x : Row). x.each) row.ensures in
-    let words = words_there k (description_of r) _ _ _ _ c.before.before.before.before.before.before.before.before.before.before.before.description.ensures start.requires.1 c.before.before.before.before.before.before.before.before.before.before.put-words.ensures in
-    let more : List ℕ = drop (length (words_of k (description_of r))) start.args.words.now in
+    let words = words_there k (description_of r) _ _ _ _ c.before.before.before.before.before.before.before.before.before.before.description.ensures c.before.before.before.before.before.before.before.before.before.before.before.before.before.before.before.requires.1 c.before.before.before.before.before.before.before.before.before.put_words.ensures in
+    let more : List ℕ = drop (length (words_of k (description_of r))) c.before.before.before.before.before.before.before.before.before.before.before.before.before.before.before.args.words.now in
     let sent = item_sent k r _ _ _ _ more address chains each words in
-    delivers (sym (chains_joined _ _) ∙ sent ∙ item_joined k r) c.before.before.put-chains.ensures
+    delivers (sym (chains_joined _ _) ∙ sent ∙ item_joined k r) c.before.before.put_chains.ensures
 
-pub put-item-spec : {M : Type 1} → statement M
-put-item-spec =
+pub put_item_spec : {M : Type 1} → statement M
+put_item_spec =
     tie.close
     (tie.spec
     description-requires

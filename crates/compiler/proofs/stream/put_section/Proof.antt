@@ -18,7 +18,7 @@ use Rattle.compiler.proofs.StreamLaws.{rest_items, rest_ordered, rest_over}
 use Rattle.compiler.proofs.stream.put_section.Statement.{statement}
 use Rattle.compiler.proofs.stream.put_section.Tie as tie
 
-abbrev invariant-loop : tie.invariant-loop
+abbrev invariant-loop : tie.invariant-loop-from
 invariant-loop out₀ at section part size step words₀ to₀ from₀ out words to from =
     (length words ≡ 32)
     × (from ≤ length part)
@@ -26,46 +26,45 @@ invariant-loop out₀ at section part size step words₀ to₀ from₀ out words
     × (to + length (items section (records_in section (drop from part))) ≡ at + length (items section (records_in section part)))
     × Pending out₀ (write at (items section (records_in section part)) out₀) to (items section (records_in section (drop from part))) out
 
-abbrev decreases-loop : tie.decreases-loop
+abbrev decreases-loop : tie.decreases-loop-from
 decreases-loop out₀ at section part size step words₀ to₀ from₀ out words to from = length part - from
 
-record-size-requires : tie.Need-record-size-requires invariant-loop decreases-loop
+record-size-requires : tie.Need-record_size-size-requires invariant-loop decreases-loop
 record-size-requires c κs = search rules
 
-item-size-requires : tie.Need-item-size-requires invariant-loop decreases-loop
+item-size-requires : tie.Need-item_size-step-requires invariant-loop decreases-loop
 item-size-requires c κs = search rules
 
-loop-holds : tie.Need-loop-init invariant-loop decreases-loop
+loop-holds : tie.Need-loop-from-init invariant-loop decreases-loop
 loop-holds c =
-    let at-args = c.before.before.before.before in
-    let a = at-args.args in
+    let a = c.before.before.before.before.args in
     let k : ℕ = a.section in
     let same = ap length (items_joined k (records_in k a.part.now)) in
-    (refl, zero-le, at-args.requires.0, refl, pending_start a.at _ _ (omega (arith, same, at-args.requires.1)))
+    (refl, zero-le, c.before.before.before.before.requires.0, refl, pending_start a.at _ _ (omega (arith, same, c.before.before.before.before.requires.1)))
 
-sub-loop : tie.Need-overflow-sub-loop invariant-loop decreases-loop
-sub-loop c = omega (arith, c.loop.invariant.1)
+sub-loop : tie.Need-overflow_sub-part invariant-loop decreases-loop
+sub-loop c = omega (arith, c.loop-from.invariant.1)
 
 suffix-requires : tie.Need-suffix-requires invariant-loop decreases-loop
 suffix-requires c κs = search rules
 
-prefix-requires : tie.Need-prefix-requires invariant-loop decreases-loop
+prefix-requires : tie.Need-prefix-rec-requires invariant-loop decreases-loop
 prefix-requires c κs = search rules
 
-sub-put-item : tie.Need-overflow-sub-put-item invariant-loop decreases-loop
-sub-put-item c = omega (arith, c.before.before.before.loop.invariant.4.room)
+sub-put-item : tie.Need-slice_bounds-put_item-count invariant-loop decreases-loop
+sub-put-item c = omega (arith, c.before.before.before.loop-from.invariant.4.room)
 
-part-put-item-start : tie.Need-slice-bounds-put-item-start invariant-loop decreases-loop
-part-put-item-start c = omega (arith, c.before.before.before.loop.invariant.4.room)
+part-put-item-start : tie.Need-slice_bounds-put_item-start invariant-loop decreases-loop
+part-put-item-start c = omega (arith, c.before.before.before.loop-from.invariant.4.room)
 
-part-put-item-end : tie.Need-slice-bounds-put-item-end invariant-loop decreases-loop
+part-put-item-end : tie.Need-slice_bounds-put_item-end invariant-loop decreases-loop
 part-put-item-end c = search rules
 
-slice-aggregate-put-item : tie.Need-slice-aggregate-put-item invariant-loop decreases-loop
+slice-aggregate-put-item : tie.Need-slice_bounds-put_item-end-in-loop-from invariant-loop decreases-loop
 slice-aggregate-put-item c = search rules
 
 -- a whole record is left of the part
-module _ (p : tie.After-prefix invariant-loop decreases-loop) where
+module _ (p : tie.After-prefix-rec invariant-loop decreases-loop) where
   abbrev k : ℕ
   k = p.before.before.before.before.before.before.before.before.args.section
 
@@ -73,22 +72,22 @@ module _ (p : tie.After-prefix invariant-loop decreases-loop) where
   part = p.before.before.before.before.before.before.before.before.args.part.now
 
   abbrev from : ℕ
-  from = p.before.before.before.loop.from
+  from = p.before.before.before.loop-from.from
 
   abbrev size : ℕ
-  size = p.before.before.before.before.before.record-size.result
+  size = p.before.before.before.before.before.record_size-size.result
 
   abbrev r : List ℕ
   r = take size (drop from part)
 
   size_is : size ≡ record_size k
-  size_is = p.before.before.before.before.before.record-size.ensures
+  size_is = p.before.before.before.before.before.record_size-size.ensures
 
   whole : size ≤ length part - from
-  whole = p.before.before.loop-test.taken
+  whole = p.before.before.loop-from-test.true
 
-  cut : p.prefix.result.now ≡ r
-  cut = p.prefix.ensures ∙ ap (take size) p.before.suffix.ensures
+  cut : p.prefix-rec.result.now ≡ r
+  cut = p.prefix-rec.ensures ∙ ap (take size) p.before.suffix.ensures
 
   next : items k (records_in k (drop from part)) ≡ item k r ++ items k (records_in k (drop (from + size) part))
   next = rest_items k part from size size_is whole
@@ -96,61 +95,56 @@ module _ (p : tie.After-prefix invariant-loop decreases-loop) where
   lengths : length (items k (records_in k (drop from part))) ≡ length (item k r) + length (items k (records_in k (drop (from + size) part)))
   lengths = ap length next ∙ length-append (item k r) (items k (records_in k (drop (from + size) part)))
 
-  long : p.before.before.before.before.item_size.result ≡ length (item k r)
-  long = p.before.before.before.before.item_size.ensures ∙ sym (item_length k r)
+  long : p.before.before.before.before.item_size-step.result ≡ length (item k r)
+  long = p.before.before.before.before.item_size-step.ensures ∙ sym (item_length k r)
 
-put-item-requires : tie.Need-put-item-requires invariant-loop decreases-loop
+put-item-requires : tie.Need-put_item-requires invariant-loop decreases-loop
 put-item-requires c κs =
-    let p = c.before.before in
-    let inv = p.before.before.before.loop.invariant in
-    (rw (cut p) (rest_ordered (k p) (part p) (from p) (size p) (size_is p) (whole p) inv.2).0, inv.0)
+    let inv = c.before.before.before.before.before.loop-from.invariant in
+    (rw (cut c.before.before) (rest_ordered (k c.before.before) (part c.before.before) (from c.before.before) (size c.before.before) (size_is c.before.before) (whole c.before.before) inv.2).0, inv.0)
 
-add-to : tie.Need-overflow-add-to invariant-loop decreases-loop
+add-to : tie.Need-overflow_add-to invariant-loop decreases-loop
 add-to c =
-    let p = c.before.before.before.before.before.before in
-    omega (arith, lengths p, long p, p.before.before.before.loop.invariant.4.room)
+    omega (arith, lengths c.before.before.before.before.before.before, long c.before.before.before.before.before.before, c.before.before.before.before.before.before.before.before.before.loop-from.invariant.4.room)
 
-add-from : tie.Need-overflow-add-from invariant-loop decreases-loop
+add-from : tie.Need-overflow_add-from invariant-loop decreases-loop
 add-from c =
-    let p = c.before.before.before.before.before.before in
-    omega (arith, whole p, p.before.before.before.loop.invariant.1)
+    omega (arith, whole c.before.before.before.before.before.before, c.before.before.before.before.before.before.before.before.before.loop-from.invariant.1)
 
-loop-less : tie.Need-loop-smaller invariant-loop decreases-loop
+loop-less : tie.Need-loop-from-smaller invariant-loop decreases-loop
 loop-less c =
-    let p = c.before.before.before.before.before.before in
-    omega (arith, whole p, size_is p, p.before.before.before.loop.invariant.1)
+    omega (arith, whole c.before.before.before.before.before.before, size_is c.before.before.before.before.before.before, c.before.before.before.before.before.before.before.before.before.loop-from.invariant.1)
 
-loop-again : tie.Need-loop-preserved invariant-loop decreases-loop
+loop-again : tie.Need-loop-from-preserved invariant-loop decreases-loop
 loop-again c =
-    let p = c.before.before.before.before.before.before in
-    let l = p.before.before.before.loop in
+    let l = c.before.before.before.before.before.before.before.before.before.loop-from in
     let put_item = c.before.before.before.put_item in (
-      put_item.auto.1.1.1.0 ∙ l.invariant.0,
-      omega (arith, whole p, l.invariant.1),
-      (rest_ordered (k p) (part p) (from p) (size p) (size_is p) (whole p) l.invariant.2).1,
-      omega (arith, lengths p, long p, l.invariant.3),
-      pending_step _ _ l.to _ _ (item (k p) (r p)) _ l.out _ _ (next p) (ap (λ (n : ℕ). l.to + n) (long p)) l.invariant.4
-          (delivers (sym (item_joined (k p) _) ∙ ap (item (k p)) (cut p)) put_item.ensures),
+      put_item.auto.words ∙ l.invariant.0,
+      omega (arith, whole c.before.before.before.before.before.before, l.invariant.1),
+      (rest_ordered (k c.before.before.before.before.before.before) (part c.before.before.before.before.before.before) (from c.before.before.before.before.before.before) (size c.before.before.before.before.before.before) (size_is c.before.before.before.before.before.before) (whole c.before.before.before.before.before.before) l.invariant.2).1,
+      omega (arith, lengths c.before.before.before.before.before.before, long c.before.before.before.before.before.before, l.invariant.3),
+      pending_step _ _ l.to _ _ (item (k c.before.before.before.before.before.before) (r c.before.before.before.before.before.before)) _ l.out _ _ (next c.before.before.before.before.before.before) (ap (λ (n : ℕ). l.to + n) (long c.before.before.before.before.before.before)) l.invariant.4
+          (delivers (sym (item_joined (k c.before.before.before.before.before.before) _) ∙ ap (item (k c.before.before.before.before.before.before)) (cut c.before.before.before.before.before.before)) put_item.ensures),
     )
 
-same_length : tie.Need-same-length invariant-loop decreases-loop
-same_length c = c.before.loop.invariant.4.size
+same_length : tie.Need-shape_of-out invariant-loop decreases-loop
+same_length c = c.before.loop-from.invariant.4.size
 
 returns : tie.Need-returns invariant-loop decreases-loop
 returns c =
     let a = c.before.before.before.before.before.before.args in
-    let l = c.before.loop in
+    let l = c.before.loop-from in
     let k : ℕ = a.section in
     let part : List ℕ = a.part.now in
-    let size = c.before.before.before.record-size.result in
-    let e : size ≡ record_size k = c.before.before.before.record-size.ensures in
-    let over = rest_over k part l.from size e c.loop-test.false in
+    let size = c.before.before.before.record_size-size.result in
+    let e : size ≡ record_size k = c.before.before.before.record_size-size.ensures in
+    let over = rest_over k part l.from size e c.loop-from-test.false in
     let done : Pending _ _ l.to [] l.out = rw over at l.invariant.4 in
     rw (← items_joined k (records_in k part))
     (record { next = omega (arith, ap length over, l.invariant.3); left = pending_end _ _ _ _ done })
 
-pub put-section-spec : {M : Type 1} → statement M
-put-section-spec =
+pub put_section_spec : {M : Type 1} → statement M
+put_section_spec =
     tie.close
     (tie.spec
     invariant-loop

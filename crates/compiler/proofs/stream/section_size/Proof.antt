@@ -26,32 +26,30 @@ measured s ok k h part count size ep ec es =
     let product : count * size ≡ length (get_or (parse s) k []) * item_size k = ap₂ ◌*◌ (ec ∙ ap (record_count k) ep ∙ part_count s ok k h) es in
     (product ∙ sym (items_length k (get_or (parse s) k [])) ∙ ap length (items_joined k (get_or (parse s) k [])), rw product (part_bound s ok k h))
 
-part-of-requires : tie.Need-part-of-requires
+part-of-requires : tie.Need-part_of-requires
 part-of-requires c κs = search rules
 
-record-count-requires : tie.Need-record-count-requires
+record-count-requires : tie.Need-record_count-requires
 record-count-requires c κs = search rules
 
-item-size-requires : tie.Need-item-size-requires
+item-size-requires : tie.Need-item_size-requires
 item-size-requires c κs = search rules
 
-mul-result : tie.Need-overflow-mul-result
+mul-result : tie.Need-overflow_mul-result
 mul-result c =
-    let at-args = c.before.before.before.before in
-    let a = at-args.args in
-    let p = at-args.requires in
-    let m = measured a.sheet.now p.0 a.section p.2 _ _ _ c.before.before.part_of.ensures c.before.record-count.ensures c.item_size.ensures in
+    let a = c.before.before.before.before.args in
+    let p = c.before.before.before.before.requires in
+    let m = measured a.sheet.now p.0 a.section p.2 _ _ _ c.before.before.part_of.ensures c.before.record_count.ensures c.item_size.ensures in
     record { fits = omega (arith, m.1) }
 
 returns : tie.Need-returns
 returns c =
-    let at-args = c.before.before.before.before in
-    let a = at-args.args in
-    let p = at-args.requires in
-    measured a.sheet.now p.0 a.section p.2 _ _ _ c.before.before.part_of.ensures c.before.record-count.ensures c.item_size.ensures
+    let a = c.before.before.before.before.args in
+    let p = c.before.before.before.before.requires in
+    measured a.sheet.now p.0 a.section p.2 _ _ _ c.before.before.part_of.ensures c.before.record_count.ensures c.item_size.ensures
 
-pub section-size-spec : {M : Type 1} → statement M
-section-size-spec =
+pub section_size_spec : {M : Type 1} → statement M
+section_size_spec =
     tie.close
     (tie.spec
     part-of-requires

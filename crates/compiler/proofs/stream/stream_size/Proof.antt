@@ -17,52 +17,52 @@ use Rattle.compiler.proofs.StreamLaws.{sent_from_law, sent_end}
 use Rattle.compiler.proofs.stream.stream_size.Statement.{statement}
 use Rattle.compiler.proofs.stream.stream_size.Tie as tie
 
-abbrev invariant-loop : tie.invariant-loop
+abbrev invariant-loop : tie.invariant-loop-i
 invariant-loop sheet found size₀ i₀ size i =
     (i ≤ length sending_order)
     × (size ≤ i * 262144)
     × (size + length (sent (drop i sending_order) (parse sheet)) ≡ length (stream_of (parse sheet)))
 
-abbrev decreases-loop : tie.decreases-loop
+abbrev decreases-loop : tie.decreases-loop-i
 decreases-loop sheet found size₀ i₀ size i = length sending_order - i
 
-loop-holds : tie.Need-loop-init invariant-loop decreases-loop
+loop-holds : tie.Need-loop-i-init invariant-loop decreases-loop
 loop-holds c = (omega arith, omega arith, zero-add _ ∙ ap length (sym (stream_sent _)))
 
-mul-section-size : tie.Need-overflow-mul-section-size invariant-loop decreases-loop
+mul-section-size : tie.Need-offset_bounds-i invariant-loop decreases-loop
 mul-section-size c = search rules
 
-array-read-section-size : tie.Need-array-read-section-size invariant-loop decreases-loop
+array-read-section-size : tie.Need-bounds-i invariant-loop decreases-loop
 array-read-section-size c = search rules
 
-section-size-requires : tie.Need-section-size-requires invariant-loop decreases-loop
-section-size-requires c κs = (c.before.before.before.requires.0, c.before.before.before.requires.1, sent_known c.before.loop.i (omega arith))
+section-size-requires : tie.Need-section_size-size-requires invariant-loop decreases-loop
+section-size-requires c κs = (c.before.before.before.before.before.requires.0, c.before.before.before.before.before.requires.1, sent_known c.before.before.before.loop-i.i (omega arith))
 
-add-size : tie.Need-overflow-add-size invariant-loop decreases-loop
-add-size c = omega (arith, c.section-size.ensures.1)
+add-size : tie.Need-overflow_add-size invariant-loop decreases-loop
+add-size c = omega (arith, c.section_size-size.ensures.1)
 
-add-i : tie.Need-overflow-add-i invariant-loop decreases-loop
+add-i : tie.Need-overflow_add-i invariant-loop decreases-loop
 add-i c = search rules
 
-loop-less : tie.Need-loop-smaller invariant-loop decreases-loop
+loop-less : tie.Need-loop-i-smaller invariant-loop decreases-loop
 loop-less c = search rules
 
-loop-again : tie.Need-loop-preserved invariant-loop decreases-loop
+loop-again : tie.Need-loop-i-preserved invariant-loop decreases-loop
 loop-again c =
-    let p : List (List (List ℕ)) = parse c.before.before.before.before.args.sheet.now in
-    let i = c.before.before.loop.i in
+    let p : List (List (List ℕ)) = parse c.before.before.before.before.before.before.args.sheet.now in
+    let i = c.before.before.before.before.loop-i.i in
     let k = sent_as i in
     let rest = sent (drop (i + 1) sending_order) p in
     let left = ap length (sent_from_law sending_order p i k (omega arith) refl) ∙ length-append (items k (get_or p k [])) rest in
-    (omega arith, omega (arith, c.section-size.ensures.1), omega (arith, left, c.section-size.ensures.0, ap length (items_joined k (get_or p k []))))
+    (omega arith, omega (arith, c.section_size-size.ensures.1), omega (arith, left, c.section_size-size.ensures.0, ap length (items_joined k (get_or p k []))))
 
 returns : tie.Need-returns invariant-loop decreases-loop
 returns c =
     let p : List (List (List ℕ)) = parse c.before.before.before.args.sheet.now in
-    omega (arith, ap length (sent_end sending_order p c.before.loop.i (omega arith)))
+    omega (arith, ap length (sent_end sending_order p c.before.loop-i.i (omega arith)))
 
-pub stream-size-spec : {M : Type 1} → statement M
-stream-size-spec =
+pub stream_size_spec : {M : Type 1} → statement M
+stream_size_spec =
     tie.close
     (tie.spec
     invariant-loop

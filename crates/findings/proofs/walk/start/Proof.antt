@@ -6,11 +6,11 @@ use borrow.Author.Rules.{rules}
 use Rattle.findings.proofs.walk.start.Statement.{statement}
 use Rattle.findings.proofs.walk.start.Tie as tie
 
-at-section-requires : tie.Need-at-section-requires
+at-section-requires : tie.Need-at_section-requires
 at-section-requires c κs = search rules
 
 returns : tie.Need-returns
-returns c = (c.at-section.ensures, subst StartsAll (sym c.at-section.ensures) from_start)
+returns c = (c.at_section.ensures, subst StartsAll (sym c.at_section.ensures) from_start)
 
 pub start_spec : {M : Type 1} → statement M
 start_spec = tie.close (tie.spec at-section-requires returns)

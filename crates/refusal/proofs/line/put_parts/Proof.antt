@@ -8,52 +8,36 @@ use Rattle.refusal.proofs.Lengths.{line_pieces, first_fits, second_fits, third_f
 use Rattle.refusal.proofs.line.put_parts.Statement.{statement}
 use Rattle.refusal.proofs.line.put_parts.Tie as tie
 
-slice-aggregate-put-two : tie.Need-slice-aggregate-put-two
-slice-aggregate-put-two c = refl
-
-put-two-requires : tie.Need-put-two-requires
+put-two-requires : tie.Need-put_two-a-requires
 put-two-requires c κs =
-    let s = c.before.before.before.before.before.before in
-    first_fits s.args.file.now s.args.words.now s.args.detail.now s.args.at _ s.requires
+    first_fits c.before.before.before.before.before.before.before.args.file.now c.before.before.before.before.before.before.before.args.words.now c.before.before.before.before.before.before.before.args.detail.now c.before.before.before.before.before.before.before.args.at _ c.before.before.before.before.before.before.before.requires
 
-slice-aggregate-put-two-2 : tie.Need-slice-aggregate-put-two-2
-slice-aggregate-put-two-2 c = refl
-
-put-two-requires-2 : tie.Need-put-two-requires-2
+put-two-requires-2 : tie.Need-put_two-b-requires
 put-two-requires-2 c κs =
-    let s = c.before.before.before.before.before.before.before.before.before.before.before in
-    let w = c.before.before.before.before.put_two in
-    rw w.auto.0 (second_fits s.args.file.now s.args.words.now s.args.detail.now s.args.at _ s.requires _ w.ensures.next)
+    let w = c.before.before.before.before.before.put_two-a in
+    rw w.auto.out (second_fits c.before.before.before.before.before.before.before.before.before.before.before.before.before.args.file.now c.before.before.before.before.before.before.before.before.before.before.before.before.before.args.words.now c.before.before.before.before.before.before.before.before.before.before.before.before.before.args.detail.now c.before.before.before.before.before.before.before.before.before.before.before.before.before.args.at _ c.before.before.before.before.before.before.before.before.before.before.before.before.before.requires _ w.ensures.next)
 
-slice-aggregate-put-two-3 : tie.Need-slice-aggregate-put-two-3
-slice-aggregate-put-two-3 c = refl
-
-put-two-requires-3 : tie.Need-put-two-requires-3
+put-two-requires-3 : tie.Need-put_two-requires
 put-two-requires-3 c κs =
-    let s = c.before.before.before.before.before.before.before.before.before.before.before.before.before.before.before.before in
-    let w = c.before.before.before.before.before.before.before.before.before.put_two in
-    let v = c.before.before.before.before.put-two2 in
-    rw (v.auto.0 ∙ w.auto.0) (third_fits s.args.file.now s.args.words.now s.args.detail.now s.args.at _ s.requires _ _ w.ensures.next v.ensures.next)
+    let w = c.before.before.before.before.before.before.before.before.before.before.before.put_two-a in
+    let v = c.before.before.before.before.before.put_two-b in
+    rw (v.auto.out ∙ w.auto.out) (third_fits c.before.before.before.before.before.before.before.before.before.before.before.before.before.before.before.before.before.before.before.args.file.now c.before.before.before.before.before.before.before.before.before.before.before.before.before.before.before.before.before.before.before.args.words.now c.before.before.before.before.before.before.before.before.before.before.before.before.before.before.before.before.before.before.before.args.detail.now c.before.before.before.before.before.before.before.before.before.before.before.before.before.before.before.before.before.before.before.args.at _ c.before.before.before.before.before.before.before.before.before.before.before.before.before.before.before.before.before.before.before.requires _ _ w.ensures.next v.ensures.next)
 
-same_length : tie.Need-same-length
-same_length c = c.before.before.put-two3.auto.0 ∙ c.before.before.before.before.before.before.before.put-two2.auto.0 ∙ c.before.before.before.before.before.before.before.before.before.before.before.before.put_two.auto.0
+same_length : tie.Need-shape_of-out
+same_length c = c.before.before.put_two.auto.out ∙ c.before.before.before.before.before.before.before.before.put_two-b.auto.out ∙ c.before.before.before.before.before.before.before.before.before.before.before.before.before.before.put_two-a.auto.out
 
 returns : tie.Need-returns
 returns c =
-    let s = c.before.before.before.before.before.before.before.before.before.before.before.before.before.before.before.before.before.before.before in
-    let h : s.args.at ≤ length s.args.out.now = omega (arith, s.requires) in
-    let two = wrote_then s.args.at _ _ _ _ _ _ _ h c.before.before.before.before.before.before.before.before.before.before.before.before.put_two.ensures c.before.before.before.before.before.before.before.put-two2.ensures in
-    rw (line_pieces s.args.file.now s.args.words.now s.args.detail.now) at (wrote_then s.args.at _ _ _ _ _ _ _ h two c.before.before.put-two3.ensures)
+    let h : c.before.before.before.before.before.before.before.before.before.before.before.before.before.before.before.before.before.before.before.before.before.before.args.at ≤ length c.before.before.before.before.before.before.before.before.before.before.before.before.before.before.before.before.before.before.before.before.before.before.args.out.now = omega (arith, c.before.before.before.before.before.before.before.before.before.before.before.before.before.before.before.before.before.before.before.before.before.before.requires) in
+    let two = wrote_then c.before.before.before.before.before.before.before.before.before.before.before.before.before.before.before.before.before.before.before.before.before.before.args.at _ _ _ _ _ _ _ h c.before.before.before.before.before.before.before.before.before.before.before.before.before.before.put_two-a.ensures c.before.before.before.before.before.before.before.before.put_two-b.ensures in
+    rw (line_pieces c.before.before.before.before.before.before.before.before.before.before.before.before.before.before.before.before.before.before.before.before.before.before.args.file.now c.before.before.before.before.before.before.before.before.before.before.before.before.before.before.before.before.before.before.before.before.before.before.args.words.now c.before.before.before.before.before.before.before.before.before.before.before.before.before.before.before.before.before.before.before.before.before.before.args.detail.now) at (wrote_then c.before.before.before.before.before.before.before.before.before.before.before.before.before.before.before.before.before.before.before.before.before.before.args.at _ _ _ _ _ _ _ h two c.before.before.put_two.ensures)
 
-pub put-parts-spec : {M : Type 1} → statement M
-put-parts-spec =
+pub put_parts_spec : {M : Type 1} → statement M
+put_parts_spec =
     tie.close
     (tie.spec
-    slice-aggregate-put-two
     put-two-requires
-    slice-aggregate-put-two-2
     put-two-requires-2
-    slice-aggregate-put-two-3
     put-two-requires-3
     same_length
     returns)

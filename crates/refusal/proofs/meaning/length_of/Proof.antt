@@ -4,14 +4,14 @@ use borrow.Author.Rules.{rules}
 use Rattle.refusal.proofs.meaning.length_of.Statement.{statement}
 use Rattle.refusal.proofs.meaning.length_of.Tie as tie
 
-mul-result : tie.Need-overflow-mul-result
+mul-result : tie.Need-offset_bounds-lengths-row
 mul-result c = search rules
 
-array-read-result : tie.Need-array-read-result
+array-read-result : tie.Need-bounds-lengths-row
 array-read-result c = c.requires
 
 returns : tie.Need-returns
 returns c = length_at c.args.row c.requires
 
-pub length-of-spec : {M : Type 1} → statement M
-length-of-spec = tie.close (tie.spec mul-result array-read-result returns)
+pub length_of_spec : {M : Type 1} → statement M
+length_of_spec = tie.close (tie.spec mul-result array-read-result returns)

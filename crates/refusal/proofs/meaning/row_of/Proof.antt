@@ -5,11 +5,11 @@ use Rattle.refusal.proofs.Meanings.{past}
 use Rattle.refusal.proofs.meaning.row_of.Statement.{statement}
 use Rattle.refusal.proofs.meaning.row_of.Tie as tie
 
-returns : tie.Need-returns
+returns : tie.Need-returns-then-row-lt-ROWS
 returns c = (omega arith, refl)
 
-returns-2 : tie.Need-returns-2
+returns-2 : tie.Need-returns-else-row-lt-ROWS
 returns-2 c = (omega arith, past c.before.args.number (omega arith))
 
-pub row-of-spec : {M : Type 1} → statement M
-row-of-spec = tie.close (tie.spec returns returns-2)
+pub row_of_spec : {M : Type 1} → statement M
+row_of_spec = tie.close (tie.spec returns returns-2)

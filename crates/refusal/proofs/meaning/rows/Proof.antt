@@ -6,5 +6,5 @@ use Rattle.refusal.proofs.meaning.rows.Tie as tie
 returns : tie.Need-returns
 returns c = row_at
 
-pub rows-spec : {M : Type 1} → statement M
-rows-spec = tie.close (tie.spec returns)
+pub rows_spec : {M : Type 1} → statement M
+rows_spec = tie.close (tie.spec returns)
