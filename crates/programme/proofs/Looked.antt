@@ -130,7 +130,7 @@ module _ (s : List ℕ) where
   unfolding plain by_rules
   table_by_rules b ok =
       record {
-        on_sources_law =
+        on_sources =
             λ e x.
             sources_same _ _ _ _ _ _ (λ i h. term_at_law x i h (description_bytes s b ok TERMS i (lit< tt)))
             (λ i h. range_at_law x i h (description_sound s b ok RANGES i (lit< tt))) (λ i h. edge_at_law e x i h);

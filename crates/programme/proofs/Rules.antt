@@ -126,7 +126,7 @@ module _ (s : List ℕ) (b : Bytes s) (ok : verdict s ≡ Accepted) where
   unfolding through_words programme_of by_rules
   words_by_rules =
       record {
-        on_sources_law =
+        on_sources =
             λ e x.
             sources_same _ _ _ _ _ _ (λ i h. term_shown (record_with TERMS i s) x)
             (λ i h. range_shown (record_with RANGES i s) x (slot_accepted RANGES i (lit< tt))) (λ i h. edge_shown (record_with EDGES i s) e x);

@@ -49,7 +49,7 @@ module _ (s : List ℕ) (b : Bytes s) (ok : verdict s ≡ Accepted) where
       let t = table_by_rules s b ok in
       let w = through_words_by_rules in
       record {
-        on_sources_law = λ e x. t.on_sources e x ∙ sym (w.on_sources e x);
+        on_sources = λ e x. t.on_sources e x ∙ sym (w.on_sources e x);
         on_sums = λ slot x h. t.on_sums slot x h ∙ sym (w.on_sums slot x h);
         on_words = λ q h. t.on_words q h ∙ sym (w.on_words q h);
       }

@@ -66,6 +66,6 @@ by_rules s =
 
 -- two machines answer alike on every sample, for the 48 sums and for the 16 states [R2, R4, R5]
 pub record Agree (m n : Machine) : Type 0 where
-  pub on_sources_law : (earlier sample : ℕ) → m.sources earlier sample ≡ n.sources earlier sample
+  pub on_sources : (earlier sample : ℕ) → m.sources earlier sample ≡ n.sources earlier sample
   pub on_sums : (slot sources : ℕ) → slot < 48 → m.matches slot sources ≡ n.matches slot sources
   pub on_words : (state : ℕ) → state < 16 → m.word state ≡ n.word state

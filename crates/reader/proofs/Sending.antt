@@ -39,9 +39,9 @@ pub data Ranked : List ℕ → Type 0 where
   next : {k : ℕ} {ks : List ℕ} → k < sections → ((slot : ℕ) → slot < most_of k → Clear (address_of k slot + 1) ks) → Ranked ks → Ranked (k ∷ ks)
 
 -- the place of a section in such an order
-placed : (order : List ℕ) (k : ℕ) → Memᴰ k order → (i : ℕ) × (i < length order) × (get_or order i 0 ≡ k)
-placed order k (Memᴰ.head e) = (0, omega arith, sym e)
-placed order k (Memᴰ.tail {xs = ks} m) = let (i, h, e) = placed ks k m in (suc i, omega arith, e)
+placed : (k : ℕ) (order : List ℕ) → Memᴰ k order → (i : ℕ) × (i < length order) × (get_or order i 0 ≡ k)
+placed k order (Memᴰ.head e) = (0, omega arith, sym e)
+placed k order (Memᴰ.tail {xs = ks} m) = let (i, h, e) = placed k ks m in (suc i, omega arith, e)
 
 member : (order : List ℕ) (i : ℕ) → i < length order → Memᴰ (get_or order i 0) order
 member [] i h = absurd (not-suc-le-zero h)
@@ -56,7 +56,7 @@ is_ranked [] known up = Ranked.done
 is_ranked (k ∷ ks) known up =
     Ranked.next (known 0 (omega arith))
     (λ slot hs j b m hb.
-    let (i, h, e) = placed ks j m in
+    let (i, h, e) = placed j ks m in
     let z = up 0 (suc i) slot b (omega arith) (omega arith) hs (rw e hb) in
     let y = rw e at z in
     omega arith)

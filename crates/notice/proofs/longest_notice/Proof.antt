@@ -9,5 +9,5 @@ returns : tie.Need-returns
 unfolding most_text slot_most most_of kind_of
 returns c = refl
 
-pub longest-notice-spec : {M : Type 1} → statement M
-longest-notice-spec = tie.close (tie.spec returns)
+pub longest_notice_spec : {M : Type 1} → statement M
+longest_notice_spec = tie.close (tie.spec returns)

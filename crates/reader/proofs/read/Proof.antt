@@ -13,34 +13,34 @@ use Rattle.reader.proofs.read.Tie as tie
 walk-requires : tie.Need-walk-requires
 walk-requires c κs = empty_room (sections * part_size) refl
 
-returns : tie.Need-returns
+returns : tie.Need-returns-in-Refused
 returns c =
-    let d = refused _ _ _ _ _ (sym c.before.before.before.before.walk.ensures.answer ∙ c.before.number.given.1) in
-    (d, read_says _ (λ i. (c.before.before.before.before.before.before.before.shared-slice-known.given i).fits) _ _ _ d)
+    let d = refused _ _ _ _ _ (sym c.before.before.walk.ensures.answer ∙ c.in-Refused.is) in
+    (d, read_says _ (λ i. (c.before.before.before.before.before.shared_slice_known-1.given i).fits) _ _ _ d)
 
-returns-2 : tie.Need-returns-2
+returns-2 : tie.Need-returns-in-Accepted
 returns-2 c =
-    let walk = c.before.before.before.before.before.before.before.before.walk in
-    let ok = sym walk.ensures.answer ∙ c.before.before.before.before.before.enum_told.given.1 in
-    let d = accepted _ _ _ _ _ ok (delivers (walk.ensures.sheet ok) c.before.before.put-sheet.ensures) in
-    (d, read_says _ (λ i. (c.before.before.before.before.before.before.before.before.before.before.before.shared-slice-known.given i).fits) _ _ _ d)
+    let walk = c.before.before.before.before.before.before.before.walk in
+    let ok = sym walk.ensures.answer ∙ c.before.before.before.before.before.in-Accepted.is in
+    let d = accepted _ _ _ _ _ ok (delivers (walk.ensures.sheet ok) c.before.before.put_sheet.ensures) in
+    (d, read_says _ (λ i. (c.before.before.before.before.before.before.before.before.before.before.shared_slice_known-1.given i).fits) _ _ _ d)
 
-slice-aggregate-walk : tie.Need-slice-aggregate-walk
+slice-aggregate-walk : tie.Need-slice_bounds-walk-end
 slice-aggregate-walk c = search rules
 
-enum-known-number : tie.Need-enum-known-number
+enum-known-number : tie.Need-enum_known-number
 enum-known-number c = search rules
 
-enum_told : tie.Need-enum-told
+enum_told : tie.Need-enum_told-1
 enum_told c = search rules
 
-slice-aggregate-put-sheet : tie.Need-slice-aggregate-put-sheet
+slice-aggregate-put-sheet : tie.Need-slice_bounds-put_sheet-end
 slice-aggregate-put-sheet c = search rules
 
-put-sheet-requires : tie.Need-put-sheet-requires
+put-sheet-requires : tie.Need-put_sheet-requires
 put-sheet-requires c κs = search rules
 
-same_length : tie.Need-same-length
+same_length : tie.Need-shape_of-out
 same_length c = search rules
 
 pub read_spec : {M : Type 1} → statement M

@@ -10,68 +10,66 @@ use borrow.Author.Rules.{rules}
 use Rattle.notice.proofs.put.put_section.Statement.{statement}
 use Rattle.notice.proofs.put.put_section.Tie as tie
 
-abbrev invariant-loop : tie.invariant-loop
+abbrev invariant-loop : tie.invariant-loop-line
 invariant-loop out₀ from section old new at₀ here₀ out at here =
     Left from (render_all (part_lines old new (cursor_at section))) out₀ out at (render_all (part_lines old new here))
 
-abbrev decreases-loop : tie.decreases-loop
+abbrev decreases-loop : tie.decreases-loop-line
 decreases-loop out₀ from section old new at₀ here₀ out at here = length (part_lines old new here)
 
-at-section-requires : tie.Need-at-section-requires invariant-loop decreases-loop
+at-section-requires : tie.Need-at_section-here-requires invariant-loop decreases-loop
 at-section-requires c κs = search rules
 
-loop-holds : tie.Need-loop-init invariant-loop decreases-loop
+loop-holds : tie.Need-loop-line-init invariant-loop decreases-loop
 loop-holds c =
-    let s = c.before.before.before.before in
-    let a = s.args in
+    let a = c.before.before.before.before.args in
     let text = render_all (part_lines a.old.now a.new.now (cursor_at a.section)) in
-    subst (λ (d : Cursor). Left a.from text a.out.now a.out.now a.from (render_all (part_lines a.old.now a.new.now d))) (sym c.at-section.ensures)
-    (left_start a.from text a.out.now s.requires)
+    subst (λ (d : Cursor). Left a.from text a.out.now a.out.now a.from (render_all (part_lines a.old.now a.new.now d))) (sym c.at_section-here.ensures)
+    (left_start a.from text a.out.now c.before.before.before.before.requires)
 
-step-in-requires : tie.Need-step-in-requires invariant-loop decreases-loop
+step-in-requires : tie.Need-step_in-requires invariant-loop decreases-loop
 step-in-requires c κs = search rules
 
-enum_told : tie.Need-enum-told invariant-loop decreases-loop
+enum_told : tie.Need-enum_told-1 invariant-loop decreases-loop
 enum_told c = search rules
 
-same_length : tie.Need-same-length invariant-loop decreases-loop
-same_length c = c.before.before.before.loop.invariant.pending.size
+same_length : tie.Need-shape_of-out-in-End invariant-loop decreases-loop
+same_length c = c.before.before.loop-line.invariant.pending.size
 
-returns : tie.Need-returns invariant-loop decreases-loop
+returns : tie.Need-returns-in-End invariant-loop decreases-loop
 returns c =
-    let a = c.before.before.before.before.before.before.before.before.args in
-    let there = c.before.before.before.loop in
-    let step = c.before.before.step_in in
-    left_end a.from _ _ _ _ _ there.invariant (text_end (part_lines a.old.now a.new.now) there.here step.result step.ensures.1 c.enum_told.given.1)
+    let a = c.before.before.before.before.before.before.before.args in
+    let there = c.before.before.loop-line in
+    let step = c.before.step_in in
+    left_end a.from _ _ _ _ _ there.invariant (text_end (part_lines a.old.now a.new.now) there.here step.result step.ensures.1 c.in-End.is)
 
-enum-known-line : tie.Need-enum-known-line invariant-loop decreases-loop
+enum-known-line : tie.Need-enum_known-line invariant-loop decreases-loop
 enum-known-line c = search rules
 
-put-line-requires : tie.Need-put-line-requires invariant-loop decreases-loop
+put-line-requires : tie.Need-put_line-at-requires invariant-loop decreases-loop
 put-line-requires c κs =
-    let a = c.before.before.before.before.before.before.before.before.before.before.args in
-    let there = c.before.before.before.before.before.loop in
-    let step = c.before.before.before.before.step_in in
-    let e = text_found (part_lines a.old.now a.new.now) there.here step.result step.ensures.1 _ _ c.before.before.line.given.1 in
-    let found = c.before.before.line.given.0 in
-    left_room a.from _ _ _ _ _ there.invariant (render found.0) (render_all (part_lines a.old.now a.new.now found.1.0)) e
+    let a = c.before.before.before.before.before.before.before.before.args in
+    let there = c.before.before.before.loop-line in
+    let step = c.before.before.step_in in
+    let e = text_found (part_lines a.old.now a.new.now) there.here step.result step.ensures.1 _ _ c.before.in-Found.is in
+    left_room a.from _ _ _ _ _ there.invariant (render c.before.in-Found.line) (render_all (part_lines a.old.now a.new.now c.before.in-Found.next)) e
 
-loop-less : tie.Need-loop-smaller invariant-loop decreases-loop
+loop-less : tie.Need-loop-line-smaller invariant-loop decreases-loop
 loop-less c =
-    let a = c.before.before.before.before.before.before.before.before.before.before.before.before.before.args in
-    let step = c.before.before.before.before.before.before.before.step_in in
-    fewer (part_lines a.old.now a.new.now) c.before.before.before.before.before.before.before.before.loop.here step.result step.ensures.1 _ _ c.before.before.before.before.before.line.given.1
+    let a = c.before.before.before.before.before.before.before.before.before.before.before.args in
+    let step = c.before.before.before.before.before.step_in in
+    fewer (part_lines a.old.now a.new.now) c.before.before.before.before.before.before.loop-line.here step.result step.ensures.1 _ _ c.before.before.before.before.in-Found.is
 
-loop-again : tie.Need-loop-preserved invariant-loop decreases-loop
+loop-again : tie.Need-loop-line-preserved invariant-loop decreases-loop
 loop-again c =
-    let a = c.before.before.before.before.before.before.before.before.before.before.before.before.before.args in
-    let there = c.before.before.before.before.before.before.before.before.loop in
-    let step = c.before.before.before.before.before.before.before.step_in in
-    let e = text_found (part_lines a.old.now a.new.now) there.here step.result step.ensures.1 _ _ c.before.before.before.before.before.line.given.1 in
-    left_turn a.from _ _ _ _ _ there.invariant _ _ _ _ e c.before.before.put-line.ensures
+    let a = c.before.before.before.before.before.before.before.before.before.before.before.args in
+    let there = c.before.before.before.before.before.before.loop-line in
+    let step = c.before.before.before.before.before.step_in in
+    let e = text_found (part_lines a.old.now a.new.now) there.here step.result step.ensures.1 _ _ c.before.before.before.before.in-Found.is in
+    left_turn a.from _ _ _ _ _ there.invariant _ _ _ _ e c.before.before.put_line-at.ensures
 
-pub put-section-spec : {M : Type 1} → statement M
-put-section-spec =
+pub put_section_spec : {M : Type 1} → statement M
+put_section_spec =
     tie.close
     (tie.spec
     invariant-loop

@@ -7,57 +7,56 @@ use borrow.Author.Rules.{rules}
 use Rattle.notice.proofs.text.put_input.Statement.{statement}
 use Rattle.notice.proofs.text.put_input.Tie as tie
 
-enum_told : tie.Need-enum-told
+enum_told : tie.Need-enum_told-1
 enum_told c = search rules
 
-enum-known-input : tie.Need-enum-known-input
+enum-known-input : tie.Need-enum_known-input
 enum-known-input c = search rules
 
-put-number-requires : tie.Need-put-number-requires
-put-number-requires c κs = (omega arith, rw c.before.before.input.given.1 at c.before.before.before.before.before.requires)
+put-number-requires : tie.Need-put_number-requires
+put-number-requires c κs = (omega arith, rw c.before.in-Sample.is at c.before.before.before.requires)
 
-enum-known-input-2 : tie.Need-enum-known-input-2
+enum-known-input-2 : tie.Need-enum_known-input-in-Samples-1
 enum-known-input-2 c = search rules
 
-put-number-requires-2 : tie.Need-put-number-requires-2
-put-number-requires-2 c κs = (omega arith, let p = rw c.before.before.input2.given.1 at c.before.before.before.before.before.requires in omega (arith, p))
+put-number-requires-2 : tie.Need-put_number-next-requires
+put-number-requires-2 c κs = (omega arith, let p = rw c.before.in-Samples.is at c.before.before.before.requires in omega (arith, p))
 
-put-number-requires-3 : tie.Need-put-number-requires-3
-put-number-requires-3 c κs = (omega arith, let p = rw c.before.before.before.before.before.before.input2.given.1 at c.before.before.before.before.before.before.before.before.before.requires in omega (arith, p, c.before.before.before.put-number2.ensures.next, c.before.before.before.put-number2.auto.0))
+put-number-requires-3 : tie.Need-put_number-requires-in-Samples
+put-number-requires-3 c κs = (omega arith, let p = rw c.before.before.before.before.before.in-Samples.is at c.before.before.before.before.before.before.before.requires in omega (arith, p, c.before.before.before.put_number-next.ensures.next, c.before.before.before.put_number-next.auto.out))
 
-enum-known-input-3 : tie.Need-enum-known-input-3
+enum-known-input-3 : tie.Need-enum_known-input-in-Sources-1
 enum-known-input-3 c = search rules
 
-put-number-requires-4 : tie.Need-put-number-requires-4
-put-number-requires-4 c κs = (omega arith, rw c.before.before.input3.given.1 at c.before.before.before.before.before.requires)
+put-number-requires-4 : tie.Need-put_number-requires-in-Sources
+put-number-requires-4 c κs = (omega arith, rw c.before.in-Sources.is at c.before.before.before.requires)
 
-returns : tie.Need-returns
-returns c = rw c.enum_told.given.1 (wrote_nil _ _)
+returns : tie.Need-returns-in-Nothing
+returns c = rw c.in-Nothing.is (wrote_nil _ _)
 
-same_length : tie.Need-same-length
+same_length : tie.Need-shape_of-out-in-Sample
 same_length c = search rules
 
-returns-2 : tie.Need-returns-2
-returns-2 c = rw c.before.before.before.before.before.input.given.1 c.before.before.put-number.ensures
+returns-2 : tie.Need-returns-in-Sample
+returns-2 c = rw c.before.before.before.before.in-Sample.is c.before.before.put_number.ensures
 
-same-length-2 : tie.Need-same-length-2
+same-length-2 : tie.Need-shape_of-out-in-Samples
 same-length-2 c = search rules
 
-returns-3 : tie.Need-returns-3
+returns-3 : tie.Need-returns-in-Samples
 returns-3 c =
-    let s = c.before.before.before.before.before.before.before.before.before.before.before.before in
-    let a = s.args in
-    let h : a.at ≤ length a.out.now = omega (arith, s.requires) in
-    rw c.before.before.before.before.before.before.before.before.before.input2.given.1 (wrote_then a.at _ _ _ _ _ _ _ h c.before.before.before.before.before.before.put-number2.ensures c.before.before.put-number3.ensures)
+    let a = c.before.before.before.before.before.before.before.before.before.before.args in
+    let h : a.at ≤ length a.out.now = omega (arith, c.before.before.before.before.before.before.before.before.before.before.requires) in
+    rw c.before.before.before.before.before.before.before.before.in-Samples.is (wrote_then a.at _ _ _ _ _ _ _ h c.before.before.before.before.before.before.put_number-next.ensures c.before.before.put_number-in-Samples.ensures)
 
-same-length-3 : tie.Need-same-length-3
+same-length-3 : tie.Need-shape_of-out-in-Sources
 same-length-3 c = search rules
 
-returns-4 : tie.Need-returns-4
-returns-4 c = rw c.before.before.before.before.before.input3.given.1 c.before.before.put-number4.ensures
+returns-4 : tie.Need-returns-in-Sources
+returns-4 c = rw c.before.before.before.before.in-Sources.is c.before.before.put_number-in-Sources.ensures
 
-pub put-input-spec : {M : Type 1} → statement M
-put-input-spec =
+pub put_input_spec : {M : Type 1} → statement M
+put_input_spec =
     tie.close
     (tie.spec
     enum_told

@@ -7,17 +7,17 @@ use borrow.Author.Rules.{rules}
 use Rattle.notice.proofs.text.slot_text.Statement.{statement}
 use Rattle.notice.proofs.text.slot_text.Tie as tie
 
-slot-digits-requires : tie.Need-slot-digits-requires
+slot-digits-requires : tie.Need-slot_digits-digits-requires
 slot-digits-requires c κs = search rules
 
-array-read-t6 : tie.Need-array-read-t6
+array-read-t6 : tie.Need-bounds-digits-0
 array-read-t6 c = search rules
 
-array-read-t9 : tie.Need-array-read-t9
+array-read-t9 : tie.Need-bounds-digits-1
 array-read-t9 c = search rules
 
 returns : tie.Need-returns
-returns c = ap (λ (digits : List ℕ). 32 ∷ get_or digits 0 0 ∷ get_or digits 1 0 ∷ 32 ∷ []) c.slot-digits.ensures
+returns c = ap (λ (digits : List ℕ). 32 ∷ get_or digits 0 0 ∷ get_or digits 1 0 ∷ 32 ∷ []) c.slot_digits-digits.ensures
 
-pub slot-text-spec : {M : Type 1} → statement M
-slot-text-spec = tie.close (tie.spec slot-digits-requires array-read-t6 array-read-t9 returns)
+pub slot_text_spec : {M : Type 1} → statement M
+slot_text_spec = tie.close (tie.spec slot-digits-requires array-read-t6 array-read-t9 returns)

@@ -11,55 +11,55 @@ use borrow.Author.Rules.{rules}
 use Rattle.reader.proofs.item.take_chain.Statement.{statement}
 use Rattle.reader.proofs.item.take_chain.Tie as tie
 
-returns : tie.Need-returns
+returns : tie.Need-returns-in-Refused
 returns c =
+    let a = c.before.before.before.before.args in
+    let s : List ℕ = drop a.at a.stream.now in
+    let n : ℕ = length a.into.now in
+    taken_refused _ _ _ _ _ (sym (chain_refused n [] a.due a.at s _ _ (sym c.before.check_command-checked.ensures.0 ∙ c.in-Refused.is)))
+
+returns-2 : tie.Need-returns-then-number_at-due
+returns-2 c =
     let a = c.before.before.before.before.before.before.args in
     let s : List ℕ = drop a.at a.stream.now in
     let n : ℕ = length a.into.now in
-    taken_refused _ _ _ _ _ (sym (chain_refused n [] a.due a.at s _ _ (sym c.before.before.before.check-command.ensures.0 ∙ c.before.checked.given.1)))
+    let e = sym c.before.before.before.check_command-checked.ensures.0 ∙ c.before.before.in_default.is in
+    taken_refused _ _ _ _ _ (sym (chain_other n [] a.due a.at s e (λ d. c.if-number_at-due.true (c.before.number_at.ensures ∙ d))))
 
-returns-2 : tie.Need-returns-2
-returns-2 c =
-    let a = c.before.before.before.before.before.before.before.args in
-    let s : List ℕ = drop a.at a.stream.now in
-    let n : ℕ = length a.into.now in
-    let e = sym c.before.before.before.before.check-command.ensures.0 ∙ c.before.before.enum_told.given.1 in
-    taken_refused _ _ _ _ _ (sym (chain_other n [] a.due a.at s e (λ d. c.if1.true (c.before.number_at.ensures ∙ d))))
-
-add-take-words : tie.Need-overflow-add-take-words
+add-take-words : tie.Need-overflow_add-at
 add-take-words c =
-    let a = c.before.before.before.before.before.before.before.args in
-    let e = sym c.before.before.before.before.check-command.ensures.0 ∙ c.before.before.enum_told.given.1 in
+    let a = c.before.before.before.before.before.before.args in
+    let e = sym c.before.before.before.check_command-checked.ensures.0 ∙ c.before.before.in_default.is in
     omega (arith, command_within select_op a.at a.stream.now e)
 
-returns-3 : tie.Need-returns-3
+returns-3 : tie.Need-returns
 returns-3 c =
-    let a = c.before.before.before.before.before.before.before.before.before.before.before.args in
+    let a = c.before.before.before.before.before.before.before.before.before.before.args in
     let n : ℕ = length a.into.now in
-    let e = sym c.before.before.before.before.before.before.before.before.check-command.ensures.0 ∙ c.before.before.before.before.before.before.enum_told.given.1 in
-    taken_as _ _ _ _ _ (chain_due n a.due a.at a.stream.now e (sym c.before.before.before.before.before.number_at.ensures ∙ c.before.before.before.before.if1.false))
+    let e = sym c.before.before.before.before.before.before.before.check_command-checked.ensures.0 ∙ c.before.before.before.before.before.before.in_default.is in
+    taken_as _ _ _ _ _ (chain_due n a.due a.at a.stream.now e (sym c.before.before.before.before.before.number_at.ensures ∙ c.before.before.before.before.if-number_at-due.false))
     c.before.before.take_words.ensures
 
-check-command-requires : tie.Need-check-command-requires
+check-command-requires : tie.Need-check_command-checked-requires
 check-command-requires c κs = search rules
 
-enum-known-checked : tie.Need-enum-known-checked
+enum-known-checked : tie.Need-enum_known-checked
 enum-known-checked c = search rules
 
-enum_told : tie.Need-enum-told
+enum_told : tie.Need-enum_told-1
 enum_told c = search rules
 
-number-at-requires : tie.Need-number-at-requires
+number-at-requires : tie.Need-number_at-requires
 number-at-requires c κs = search rules
 
-take-words-requires : tie.Need-take-words-requires
+take-words-requires : tie.Need-take_words-requires
 take-words-requires c κs = search rules
 
-same_length : tie.Need-same-length
+same_length : tie.Need-shape_of-into
 same_length c = search rules
 
-pub take-chain-spec : {M : Type 1} → statement M
-take-chain-spec =
+pub take_chain_spec : {M : Type 1} → statement M
+take_chain_spec =
     tie.close
     (tie.spec
     check-command-requires

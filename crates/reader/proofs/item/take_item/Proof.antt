@@ -13,36 +13,35 @@ use borrow.Author.Rules.{rules}
 use Rattle.reader.proofs.item.take_item.Statement.{statement}
 use Rattle.reader.proofs.item.take_item.Tie as tie
 
-returns : tie.Need-returns
+returns : tie.Need-returns-in-Refused
 returns c =
-    taken_refused _ _ _ _ _ (and_then_stop _ _ _ _ _ refl (sym c.before.before.before.check-first.ensures ∙ c.before.first.given.1))
+    taken_refused _ _ _ _ _ (and_then_stop _ _ _ _ _ refl (sym c.before.check_first-first.ensures ∙ c.in-Refused.is))
 
-take-chains-requires : tie.Need-take-chains-requires
+take-chains-requires : tie.Need-take_chains-requires
 take-chains-requires c κs =
-    let at-args = c.before.before.before.before.before.before in
-    let a = at-args.args in
+    let a = c.before.before.before.before.before.args in
     let s : List ℕ = drop a.at a.stream.now in
-    let known = (first_accepted a.low a.at s (sym c.before.before.before.check-first.ensures ∙ c.before.enum_told.given.1)).0 in
-    (omega (arith, at-args.requires.0, known_small (number s) known), at-args.requires.2)
+    let known = (first_accepted a.low a.at s (sym c.before.before.check_first-first.ensures ∙ c.before.in_default.is)).0 in
+    (omega (arith, c.before.before.before.before.before.requires.0, known_small (number s) known), c.before.before.before.before.before.requires.2)
 
-returns-2 : tie.Need-returns-2
+returns-2 : tie.Need-returns
 returns-2 c =
-    taken_as _ _ _ _ _ (and_then_go _ _ _ refl (sym c.before.before.before.before.before.before.check-first.ensures ∙ c.before.before.before.before.enum_told.given.1)) c.before.before.take-chains.ensures
+    taken_as _ _ _ _ _ (and_then_go _ _ _ refl (sym c.before.before.before.before.before.check_first-first.ensures ∙ c.before.before.before.before.in_default.is)) c.before.before.take_chains.ensures
 
-check-first-requires : tie.Need-check-first-requires
+check-first-requires : tie.Need-check_first-first-requires
 check-first-requires c κs = search rules
 
-enum-known-first : tie.Need-enum-known-first
+enum-known-first : tie.Need-enum_known-first
 enum-known-first c = search rules
 
-enum_told : tie.Need-enum-told
+enum_told : tie.Need-enum_told-1
 enum_told c = search rules
 
-same_length : tie.Need-same-length
+same_length : tie.Need-shape_of-words
 same_length c = search rules
 
-pub take-item-spec : {M : Type 1} → statement M
-take-item-spec =
+pub take_item_spec : {M : Type 1} → statement M
+take_item_spec =
     tie.close
     (tie.spec
     check-first-requires

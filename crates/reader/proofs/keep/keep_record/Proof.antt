@@ -14,86 +14,80 @@ use Rattle.reader.proofs.keep.keep_record.Statement.{statement}
 use Rattle.reader.proofs.keep.keep_record.Tie as tie
 
 -- there is room for one record more
-fits : (c : tie.After-section-size) → c.section-size.result + record_size c.before.before.before.before.args.section ≤ part_size
+fits : (c : tie.After-section_size) → c.section_size.result + record_size c.before.before.before.before.args.section ≤ part_size
 fits c =
-    let at-args = c.before.before.before.before in
-    let a = at-args.args in
-    record_fits a.section (count_in a.section a.room.now) _ at-args.requires.0 at-args.requires.2 c.section-size.ensures
+    let a = c.before.before.before.before.args in
+    record_fits a.section (count_in a.section a.room.now) _ c.before.before.before.before.requires.0 c.before.before.before.before.requires.2 c.section_size.ensures
 
-add-to : tie.Need-overflow-add-to
+add-to : tie.Need-overflow_add-to
 add-to c = omega (arith, fits c)
 
-mul-total : tie.Need-overflow-mul-total
-mul-total c = omega (arith, total_of c.before.before.before.before.before.before.args.section _ _ c.before.chain-count.ensures c.Chain-length.ensures)
+mul-total : tie.Need-overflow_mul-total
+mul-total c = omega (arith, total_of c.before.before.before.before.before.before.args.section _ _ c.before.chain_count.ensures c.chain_length.ensures)
 
-sub-put-record : tie.Need-overflow-sub-put-record
+sub-put-record : tie.Need-slice_bounds-put_record-count
 sub-put-record c = omega (arith, fits c.before.before)
 
-part-put-record-start : tie.Need-slice-bounds-put-record-start
+part-put-record-start : tie.Need-slice_bounds-put_record-start
 part-put-record-start c = omega (arith, fits c.before.before)
 
-part-put-record-end-2 : tie.Need-slice-bounds-put-record-end-2
-part-put-record-end-2 c = omega (arith, total_of c.before.before.before.before.before.before.before.args.section _ _ c.before.before.chain-count.ensures c.before.Chain-length.ensures)
+part-put-record-end-2 : tie.Need-slice_bounds-put_record-end-2
+part-put-record-end-2 c = omega (arith, total_of c.before.before.before.before.before.before.before.args.section _ _ c.before.before.chain_count.ensures c.before.chain_length.ensures)
 
-put-record-requires : tie.Need-put-record-requires
+put-record-requires : tie.Need-put_record-size-requires
 put-record-requires c κs =
-    let at-section-size = c.before.before.before.before in
-    let at-args = at-section-size.before.before.before.before in
-    let a = at-args.args in
-    (at-args.requires.0, omega (arith, rest_length (part_size * a.section + at-section-size.section-size.result) a.room.now, fits at-section-size))
+    let a = c.before.before.before.before.before.before.before.before.args in
+    (c.before.before.before.before.before.before.before.before.requires.0, omega (arith, rest_length (part_size * a.section + c.before.before.before.before.section_size.result) a.room.now, fits c.before.before.before.before))
 
-add-room : tie.Need-overflow-add-room
+add-room : tie.Need-overflow_add-room
 add-room c =
-    let at_pre = c.before.before.before.before.before.before.before.before.before.before.before in
-    omega (arith, at_pre.requires.2, most_byte at_pre.args.section)
+    omega (arith, c.before.before.before.before.before.before.before.before.before.before.before.requires.2, most_byte c.before.before.before.before.before.before.before.before.before.before.before.args.section)
 
 returns : tie.Need-returns
 returns c =
-    let Chain-length = c.before.before.before.before.before.Chain-length in
-    let chain-count = c.before.before.before.before.before.before.chain-count in
-    let at-section-size = c.before.before.before.before.before.before.before in
-    let at-args = at-section-size.before.before.before.before in
-    let a = at-args.args in
+    let Chain-length = c.before.before.before.before.before.chain_length in
+    let chain-count = c.before.before.before.before.before.before.chain_count in
+    let a = c.before.before.before.before.before.before.before.before.before.before.before.args in
     let k = a.section in
     let n : ℕ = chain-count.result * Chain-length.result in
     let z : n - 0 ≡ n = omega arith in
     let t : n - 0 ≡ chain_count k * chain_length k = z ∙ ap₂ ◌*◌ chain-count.ensures Chain-length.ensures in
-    let put = rw t at c.before.before.put_record.ensures in
-    let short = description_short k at-args.requires.0 (take (chain_count k * chain_length k) a.words.now) in
-    (put.0, kept_made k a.slot at-section-size.section-size.result _ a.room.now _ at-section-size.section-size.ensures (omega (arith, short, fits at-section-size)) put.1)
+    let put = rw t at c.before.before.put_record-size.ensures in
+    let short = description_short k c.before.before.before.before.before.before.before.before.before.before.before.requires.0 (take (chain_count k * chain_length k) a.words.now) in
+    (put.0, kept_made k a.slot c.before.before.before.before.before.before.before.section_size.result _ a.room.now _ c.before.before.before.before.before.before.before.section_size.ensures (omega (arith, short, fits c.before.before.before.before.before.before.before)) put.1)
 
-mul-start : tie.Need-overflow-mul-start
+mul-start : tie.Need-overflow_mul-start
 mul-start c = search rules
 
-slice-read-count : tie.Need-slice-read-count
+slice-read-count : tie.Need-bounds-room-start
 slice-read-count c = search rules
 
-section-size-requires : tie.Need-section-size-requires
+section-size-requires : tie.Need-section_size-requires
 section-size-requires c κs = search rules
 
-chain-count-requires : tie.Need-chain-count-requires
+chain-count-requires : tie.Need-chain_count-requires
 chain-count-requires c κs = search rules
 
-chain-length-requires : tie.Need-chain-length-requires
+chain-length-requires : tie.Need-chain_length-requires
 chain-length-requires c κs = search rules
 
-part-put-record-end : tie.Need-slice-bounds-put-record-end
+part-put-record-end : tie.Need-slice_bounds-put_record-end
 part-put-record-end c = search rules
 
-sub-put-record-2 : tie.Need-overflow-sub-put-record-2
+sub-put-record-2 : tie.Need-slice_bounds-put_record-count-2
 sub-put-record-2 c = search rules
 
-part-put-record-start-2 : tie.Need-slice-bounds-put-record-start-2
+part-put-record-start-2 : tie.Need-slice_bounds-put_record-start-2
 part-put-record-start-2 c = search rules
 
-slice-write-room : tie.Need-slice-write-room
+slice-write-room : tie.Need-bounds-room-start-2
 slice-write-room c = search rules
 
-same_length : tie.Need-same-length
+same_length : tie.Need-shape_of-room
 same_length c = search rules
 
-pub keep-record-spec : {M : Type 1} → statement M
-keep-record-spec =
+pub keep_record_spec : {M : Type 1} → statement M
+keep_record_spec =
     tie.close
     (tie.spec
     mul-start

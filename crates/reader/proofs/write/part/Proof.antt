@@ -15,24 +15,24 @@ returns : tie.Need-returns
 unfolding part_of
 returns c =
     let k = c.before.before.before.before.before.args.section in
-    let size = c.before.before.section-size.ensures ∙ ap (section_size k) c.before.before.before.byte_at.ensures in (
+    let size = c.before.before.section_size-size.ensures ∙ ap (section_size k) c.before.before.before.byte_at.ensures in (
       c.prefix.ensures ∙ ap₂ (λ (n : ℕ) (bs : List ℕ). take n bs) size c.before.suffix.ensures,
       omega (
         arith,
         ap length c.prefix.ensures,
-        length-take c.before.before.section-size.result c.before.suffix.result.now,
-        c.before.before.section-size.ensures,
+        length-take c.before.before.section_size-size.result c.before.suffix.result.now,
+        c.before.before.section_size-size.ensures,
         section_bound k c.before.before.before.byte_at.result (omega arith),
       ),
     )
 
-mul-start : tie.Need-overflow-mul-start
+mul-start : tie.Need-overflow_mul-start
 mul-start c = search rules
 
-byte-at-requires : tie.Need-byte-at-requires
+byte-at-requires : tie.Need-byte_at-requires
 byte-at-requires c κs = search rules
 
-section-size-requires : tie.Need-section-size-requires
+section-size-requires : tie.Need-section_size-size-requires
 section-size-requires c κs = search rules
 
 suffix-requires : tie.Need-suffix-requires
@@ -41,8 +41,8 @@ suffix-requires c κs = search rules
 prefix-requires : tie.Need-prefix-requires
 prefix-requires c κs = search rules
 
-pub part-spec : {M : Type 1} → statement M
-part-spec =
+pub part_spec : {M : Type 1} → statement M
+part_spec =
     tie.close
     (tie.spec
     mul-start
