@@ -30,8 +30,8 @@ unfolding how_many
 counted_turn counts l rest all n h c s b =
     elim (ℕ_discrete (sort_of l.finding) s) [
       | yes e ↦
-          let before = rw (eq-eqb (sort_of l.finding) s e) at (c s b) in
-          rw (← e) (rw (get_or-set_same counts (sort_of l.finding) (get_or counts (sort_of l.finding) 0 + 1) 0 (omega arith)) (omega (arith, rw (← e) at before)))
+          let before = rw (eq-eqb (sort_of l.finding) (sort_of l.finding) refl) at (c (sort_of l.finding) h) in
+          rw (← e) (rw (get_or-set_same counts (sort_of l.finding) (get_or counts (sort_of l.finding) 0 + 1) 0 (omega arith)) (omega (arith, before)))
       | no e ↦
           let before = rw (ne_eqb (sort_of l.finding) s e) at (c s b) in
           rw (get_or-set_other counts (sort_of l.finding) s (get_or counts (sort_of l.finding) 0 + 1) 0 (λ q. e (sym q))) (omega (arith, before))

@@ -13,49 +13,46 @@ use Rattle.bench.proofs.Through.{table_refused, table_made, refused_call, table_
 use Rattle.bench.proofs.call.bench.Statement.{statement}
 use Rattle.bench.proofs.call.bench.Tie as tie
 
-slice-aggregate-prepare : tie.Need-slice-aggregate-prepare
+slice-aggregate-prepare : tie.Need-slice_bounds-prepare-end
 slice-aggregate-prepare c = search rules
 
 prepare-requires : tie.Need-prepare-requires
 prepare-requires c κs = search rules
 
-enum-known-number : tie.Need-enum-known-number
+enum-known-number : tie.Need-enum_known-number
 enum-known-number c = search rules
 
-enum_told : tie.Need-enum-told
+enum_told : tie.Need-enum_told-1
 enum_told c = search rules
 
-slice-aggregate-bench-table : tie.Need-slice-aggregate-bench-table
+slice-aggregate-bench-table : tie.Need-slice_bounds-bench_table-end
 slice-aggregate-bench-table c = search rules
 
-bench-table-requires : tie.Need-bench-table-requires
+bench-table-requires : tie.Need-bench_table-requires
 bench-table-requires c κs = search rules
 
-returns : tie.Need-returns
+returns : tie.Need-returns-in-Refused
 returns c =
-    let p = c.before.before.before.before in
-    let a = p.before.before.before.before.before.args in
+    let a = c.before.before.before.before.before.before.before.args in
     let g =
     refused_call a.sheet.now a.samples.now a.run a.out.now _ _
-    (table_refused a.sheet.now _ _ _ p.prepare.ensures refl _ _ c.before.number.given.1) in
+    (table_refused a.sheet.now _ _ _ c.before.before.prepare.ensures refl _ _ c.in-Refused.is) in
     (g.0, (g.1, numbered a.sheet.now a.samples.now a.run _ _ g.0))
 
-same_length : tie.Need-same-length
+same_length : tie.Need-shape_of-out
 same_length c = search rules
 
-returns-2 : tie.Need-returns-2
+returns-2 : tie.Need-returns-in-Done
 returns-2 c =
-    let b = c.before.before in
-    let p = b.before.before.before.before.before.before in
-    let a = p.before.before.before.before.before.args in
-    let m = table_made a.sheet.now _ _ _ p.prepare.ensures refl _ b.before.before.before.enum_told.given.1 in
-    let bytes : Bytes a.sheet.now = λ i. omega (arith, p.before.before.before.before.shared-slice-known.given i) in
+    let a = c.before.before.before.before.before.before.before.before.before.before.before.before.args in
+    let m = table_made a.sheet.now _ _ _ c.before.before.before.before.before.before.before.prepare.ensures refl _ c.before.before.before.before.before.in-Done.is in
+    let bytes : Bytes a.sheet.now = λ i. omega (arith, c.before.before.before.before.before.before.before.before.before.before.before.shared_slice_known-1.given i) in
     let agree = subst (λ (t : List _). Agree (plain t) (machine_of a.sheet.now)) (sym m.1) (agrees a.sheet.now bytes m.0) in
-    let g = table_call a.sheet.now _ a.samples.now a.run a.out.now _ _ m.0 agree b.bench-table.ensures in
+    let g = table_call a.sheet.now _ a.samples.now a.run a.out.now _ _ m.0 agree c.before.before.bench_table.ensures in
     (g.0, (g.1, numbered a.sheet.now a.samples.now a.run _ _ g.0))
 
-pub bench-spec : {M : Type 1} → statement M
-bench-spec =
+pub bench_spec : {M : Type 1} → statement M
+bench_spec =
     tie.close
     (tie.spec
     slice-aggregate-prepare

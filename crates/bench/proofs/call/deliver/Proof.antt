@@ -5,13 +5,13 @@ use Rattle.bench.proofs.Calling.{walked_into}
 use Rattle.bench.proofs.call.deliver.Statement.{statement}
 use Rattle.bench.proofs.call.deliver.Tie as tie
 
-deliver-judged-requires : tie.Need-deliver-judged-requires
+deliver-judged-requires : tie.Need-deliver_judged-requires
 deliver-judged-requires c κs = search rules
 
-same_length : tie.Need-same-length
+same_length : tie.Need-shape_of-out-then-out-samples
 same_length c = search rules
 
-returns : tie.Need-returns
+returns : tie.Need-returns-then-out-samples
 returns c = search rules
 
 walk-requires : tie.Need-walk-requires
@@ -20,18 +20,17 @@ walk-requires c κs = search rules
 done-requires : tie.Need-done-requires
 done-requires c κs = search rules
 
-same-length-2 : tie.Need-same-length-2
+same-length-2 : tie.Need-shape_of-out
 same-length-2 c = search rules
 
-returns-2 : tie.Need-returns-2
+returns-2 : tie.Need-returns
 returns-2 c =
-    let w = c.before.before.before in
-    let a = w.before.before.before.before.before.before.args in
-    walked_into (plain a.table.now) a.samples.now a.state a.count a.earlier a.out.now _ _ w.walk.ensures _
-    w.before.before.if1.false c.done.ensures
+    let a = c.before.before.before.before.before.before.before.before.before.args in
+    walked_into (plain a.table.now) a.samples.now a.state a.count a.earlier a.out.now _ _ c.before.before.before.walk.ensures _
+    c.before.before.before.before.before.if-out-samples.false c.done.ensures
 
-pub deliver-spec : {M : Type 1} → statement M
-deliver-spec =
+pub deliver_spec : {M : Type 1} → statement M
+deliver_spec =
     tie.close
     (tie.spec
     deliver-judged-requires

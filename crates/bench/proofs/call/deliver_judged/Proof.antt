@@ -7,52 +7,46 @@ use Rattle.bench.proofs.Calling.{too_short, walk_few, walked_apart}
 use Rattle.bench.proofs.call.deliver_judged.Statement.{statement}
 use Rattle.bench.proofs.call.deliver_judged.Tie as tie
 
-slice-aggregate-walk : tie.Need-slice-aggregate-walk
+slice-aggregate-walk : tie.Need-slice_bounds-walk-end
 slice-aggregate-walk c = search rules
 
-walk-requires : tie.Need-walk-requires
+walk-requires : tie.Need-walk-w-requires
 walk-requires c κs = search rules
 
-returns : tie.Need-returns
+returns : tie.Need-returns-then-out-needed
 returns c =
-    let w = c.before.before in
-    let a = w.before.before.before.before.before.args in
-    too_short (plain a.table.now) a.samples.now (run_from a.state a.count a.earlier) a.out.now _ w.walk.ensures.counted
-    c.if1.true
+    let a = c.before.before.before.before.before.before.before.args in
+    too_short (plain a.table.now) a.samples.now (run_from a.state a.count a.earlier) a.out.now _ c.before.before.walk-w.ensures.counted
+    c.if-out-needed.true
 
-sub-put-words : tie.Need-overflow-sub-put-words
+sub-put-words : tie.Need-slice_bounds-put_words-count
 sub-put-words c = search rules
 
-part-put-words-start : tie.Need-slice-bounds-put-words-start
+part-put-words-start : tie.Need-slice_bounds-put_words-start
 part-put-words-start c = search rules
 
-part-put-words-end : tie.Need-slice-bounds-put-words-end
+part-put-words-end : tie.Need-slice_bounds-put_words-end
 part-put-words-end c =
-    let w = c.before.before.before.before in
-    let a = w.before.before.before.before.before in
-    let few = walk_few (plain a.args.table.now) a.args.samples.now a.args.state a.args.count a.args.earlier _ _ _ w.walk.ensures in
-    let most = a.requires.few in
+    let few = walk_few (plain c.before.before.before.before.before.before.before.before.args.table.now) c.before.before.before.before.before.before.before.before.args.samples.now c.before.before.before.before.before.before.before.before.args.state c.before.before.before.before.before.before.before.before.args.count c.before.before.before.before.before.before.before.before.args.earlier _ _ _ c.before.before.before.walk-w.ensures in
+    let most = c.before.before.before.before.before.before.before.before.requires.few in
     omega arith
 
-put-words-requires : tie.Need-put-words-requires
+put-words-requires : tie.Need-put_words-requires
 put-words-requires c κs = search rules
 
 done-requires : tie.Need-done-requires
 done-requires c κs = search rules
 
-same_length : tie.Need-same-length
+same_length : tie.Need-shape_of-out
 same_length c = search rules
 
-returns-2 : tie.Need-returns-2
+returns-2 : tie.Need-returns
 returns-2 c =
-    let p = c.before.before.before in
-    let w = p.before.before.before.before.before.before in
-    let a = w.before.before.before.before.before in
-    walked_apart (plain a.args.table.now) a.args.samples.now a.args.state a.args.count a.args.earlier _ _ _ w.walk.ensures
-    a.args.out.now _ _ _ a.requires.few p.before.before.before.before.if1.false p.put-words.ensures c.done.ensures
+    walked_apart (plain c.before.before.before.before.before.before.before.before.before.before.before.before.before.args.table.now) c.before.before.before.before.before.before.before.before.before.before.before.before.before.args.samples.now c.before.before.before.before.before.before.before.before.before.before.before.before.before.args.state c.before.before.before.before.before.before.before.before.before.before.before.before.before.args.count c.before.before.before.before.before.before.before.before.before.before.before.before.before.args.earlier _ _ _ c.before.before.before.before.before.before.before.before.walk-w.ensures
+    c.before.before.before.before.before.before.before.before.before.before.before.before.before.args.out.now _ _ _ c.before.before.before.before.before.before.before.before.before.before.before.before.before.requires.few c.before.before.before.before.before.before.if-out-needed.false c.before.before.before.put_words.ensures c.done.ensures
 
-pub deliver-judged-spec : {M : Type 1} → statement M
-deliver-judged-spec =
+pub deliver_judged_spec : {M : Type 1} → statement M
+deliver_judged_spec =
     tie.close
     (tie.spec
     slice-aggregate-walk

@@ -6,58 +6,55 @@ use Rattle.bench.proofs.Handing.{other_count, other_flags, run_read}
 use Rattle.bench.proofs.handed.run_of.Statement.{statement}
 use Rattle.bench.proofs.handed.run_of.Tie as tie
 
-no-run-requires : tie.Need-no-run-requires
+no-run-requires : tie.Need-no_run-requires
 no-run-requires c κs = search rules
 
-returns : tie.Need-returns
-returns c = c.no_run.ensures ∙ other_count _ c.before.if1.true
+returns : tie.Need-returns-then-words-ne-RUN_WORDS
+returns c = c.no_run.ensures ∙ other_count _ c.before.if-words-ne-RUN_WORDS.true
 
-shared-slice-read-are-flags : tie.Need-shared-slice-read-are-flags
+shared-slice-read-are-flags : tie.Need-bounds-words-2
 shared-slice-read-are-flags c = search rules
 
-shared-slice-read-are-flags-2 : tie.Need-shared-slice-read-are-flags-2
+shared-slice-read-are-flags-2 : tie.Need-bounds-words-3
 shared-slice-read-are-flags-2 c = search rules
 
-shared-slice-read-are-flags-3 : tie.Need-shared-slice-read-are-flags-3
+shared-slice-read-are-flags-3 : tie.Need-bounds-words-4
 shared-slice-read-are-flags-3 c = search rules
 
-are-flags-requires : tie.Need-are-flags-requires
+are-flags-requires : tie.Need-are_flags-requires
 are-flags-requires c κs = search rules
 
-no-run-requires-2 : tie.Need-no-run-requires-2
+no-run-requires-2 : tie.Need-no_run-requires-then-not-are_flags
 no-run-requires-2 c κs = search rules
 
-returns-2 : tie.Need-returns-2
+returns-2 : tie.Need-returns-then-not-are_flags
 returns-2 c =
-    let f = c.before.before in
-    c.no-run2.ensures ∙ other_flags _ f.before.before.before.before.if1.false (sym f.are-flags.ensures ∙ not-true _ c.before.if2.true)
+    c.no_run-then-not-are_flags.ensures ∙ other_flags _ c.before.before.before.before.before.before.if-words-ne-RUN_WORDS.false (sym c.before.before.are_flags.ensures ∙ c.before.if-not-are_flags.true)
 
-shared-slice-read-t5 : tie.Need-shared-slice-read-t5
+shared-slice-read-t5 : tie.Need-bounds-words-0
 shared-slice-read-t5 c = search rules
 
-shared-slice-read-t7 : tie.Need-shared-slice-read-t7
+shared-slice-read-t7 : tie.Need-bounds-words-1
 shared-slice-read-t7 c = search rules
 
-shared-slice-read-earlier-in : tie.Need-shared-slice-read-earlier-in
+shared-slice-read-earlier-in : tie.Need-bounds-words-2-2
 shared-slice-read-earlier-in c = search rules
 
-shared-slice-read-earlier-in-2 : tie.Need-shared-slice-read-earlier-in-2
+shared-slice-read-earlier-in-2 : tie.Need-bounds-words-3-2
 shared-slice-read-earlier-in-2 c = search rules
 
-earlier-in-requires : tie.Need-earlier-in-requires
+earlier-in-requires : tie.Need-earlier_in-requires
 earlier-in-requires c κs = search rules
 
-shared-slice-read-t18 : tie.Need-shared-slice-read-t18
+shared-slice-read-t18 : tie.Need-bounds-words-4-2
 shared-slice-read-t18 c = search rules
 
-returns-3 : tie.Need-returns-3
+returns-3 : tie.Need-returns
 returns-3 c =
-    let t = c.before.before.before.before.before.before in
-    let f = t.before in
-    run_read _ _ f.before.before.before.before.if1.false (sym f.are-flags.ensures ∙ not-false _ t.if2.false) c.before.earlier-in.ensures
+    run_read _ _ c.before.before.before.before.before.before.before.before.before.before.before.if-words-ne-RUN_WORDS.false (sym c.before.before.before.before.before.before.before.are_flags.ensures ∙ c.before.before.before.before.before.before.if-not-are_flags.false) c.before.earlier_in.ensures
 
-pub run-of-spec : {M : Type 1} → statement M
-run-of-spec =
+pub run_of_spec : {M : Type 1} → statement M
+run_of_spec =
     tie.close
     (tie.spec
     no-run-requires

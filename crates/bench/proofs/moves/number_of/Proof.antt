@@ -5,13 +5,13 @@ use Rattle.bench.specs.Run.{number_of}
 use Rattle.bench.proofs.moves.number_of.Statement.{statement}
 use Rattle.bench.proofs.moves.number_of.Tie as tie
 
-returns : tie.Need-returns
+returns : tie.Need-returns-then-number-eq0
 unfolding number_of
-returns c = (rw (eq-eqb _ _ c.if1.true), omega arith)
+returns c = (rw (eq-eqb _ _ c.if-number-eq0.true), omega arith)
 
-returns-2 : tie.Need-returns-2
+returns-2 : tie.Need-returns-else-number-eq0
 unfolding number_of
-returns-2 c = (rw (ne_eqb _ _ c.if1.false), omega arith)
+returns-2 c = (rw (ne_eqb _ _ c.if-number-eq0.false), omega arith)
 
-pub number-of-spec : {M : Type 1} → statement M
-number-of-spec = tie.close (tie.spec returns returns-2)
+pub number_of_spec : {M : Type 1} → statement M
+number_of_spec = tie.close (tie.spec returns returns-2)

@@ -5,18 +5,18 @@ use Rattle.programme.specs.Table.{plain}
 use Rattle.bench.proofs.moves.word_of.Statement.{statement}
 use Rattle.bench.proofs.moves.word_of.Tie as tie
 
-add-result : tie.Need-overflow-add-result
+add-result : tie.Need-overflow_add-result
 add-result c = search rules
 
-mul-result : tie.Need-overflow-mul-result
+mul-result : tie.Need-offset_bounds-table-state
 mul-result c = search rules
 
-shared-slice-read-result : tie.Need-shared-slice-read-result
+shared-slice-read-result : tie.Need-bounds-table-state
 shared-slice-read-result c = search rules
 
 returns : tie.Need-returns
 unfolding plain
 returns c = refl
 
-pub word-of-spec : {M : Type 1} → statement M
-word-of-spec = tie.close (tie.spec add-result mul-result shared-slice-read-result returns)
+pub word_of_spec : {M : Type 1} → statement M
+word_of_spec = tie.close (tie.spec add-result mul-result shared-slice-read-result returns)

@@ -6,48 +6,47 @@ use Rattle.bench.proofs.Found.{upper_found}
 use Rattle.bench.proofs.sources.upper_sources.Statement.{statement}
 use Rattle.bench.proofs.sources.upper_sources.Tie as tie
 
-edge-at-requires : tie.Need-edge-at-requires
+edge-at-requires : tie.Need-edge_at-requires
 edge-at-requires c κs = search rules
 
 below-requires : tie.Need-below-requires
 below-requires c κs = search rules
 
-edge-at-requires-2 : tie.Need-edge-at-requires-2
+edge-at-requires-2 : tie.Need-edge_at-requires-2
 edge-at-requires-2 c κs = search rules
 
-below-requires-2 : tie.Need-below-requires-2
+below-requires-2 : tie.Need-below-edges-requires
 below-requires-2 c κs = omega arith
 
-range-at-requires : tie.Need-range-at-requires
+range-at-requires : tie.Need-range_at-requires
 range-at-requires c κs = search rules
 
-below-requires-3 : tie.Need-below-requires-3
+below-requires-3 : tie.Need-below-requires-2
 below-requires-3 c κs = omega arith
 
-range-at-requires-2 : tie.Need-range-at-requires-2
+range-at-requires-2 : tie.Need-range_at-requires-2
 range-at-requires-2 c κs = search rules
 
-below-requires-4 : tie.Need-below-requires-4
+below-requires-4 : tie.Need-below-requires-3
 below-requires-4 c κs = omega arith
 
 returns : tie.Need-returns
 returns c =
-    let d = c.before.before.before.before.before.before in
-    let a = d.before.before.before.args in (
+    let a = c.before.before.before.before.before.before.before.before.before.args in (
       rw (
         upper_found a.table.now a.earlier a.sample,
-        ← d.before.edge_at.ensures,
-        ← c.before.before.before.before.before.edge-at2.ensures,
+        ← c.before.before.before.before.before.before.before.edge_at.ensures,
+        ← c.before.before.before.before.before.edge_at-2.ensures,
         ← c.before.before.before.range_at.ensures,
-        ← c.before.range-at2.ensures,
+        ← c.before.range_at-2.ensures,
       )
-          (c.below4.ensures.0
-          ∙ rw (c.before.before.below3.ensures.0, c.before.before.before.before.below2.ensures.0, d.below.ensures.0)),
+          (c.below-3.ensures.0
+          ∙ rw (c.before.before.below-2.ensures.0, c.before.before.before.before.below-edges.ensures.0, c.before.before.before.before.before.before.below.ensures.0)),
       omega arith,
     )
 
-pub upper-sources-spec : {M : Type 1} → statement M
-upper-sources-spec =
+pub upper_sources_spec : {M : Type 1} → statement M
+upper_sources_spec =
     tie.close
     (tie.spec
     edge-at-requires

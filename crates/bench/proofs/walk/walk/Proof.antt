@@ -12,19 +12,18 @@ use Rattle.bench.proofs.Walking.{Walking, walk_starts, walk_turns, walk_on, walk
 use Rattle.bench.proofs.walk.walk.Statement.{statement}
 use Rattle.bench.proofs.walk.walk.Tie as tie
 
-abbrev invariant-loop : tie.invariant-loop
+abbrev invariant-loop : tie.invariant-loop-i
 invariant-loop table samples state count earlier out₀ state₀ count₀ earlier₀ n₀ i₀ out state' count' earlier' n i =
     (length table ≡ 336) × (length samples ≤ 4096) × (length samples ≤ length out₀)
     × Walking (plain table) samples (run_from state count earlier) out₀ i n (run_from state' count' earlier') out
 
-abbrev decreases-loop : tie.decreases-loop
+abbrev decreases-loop : tie.decreases-loop-i
 decreases-loop table samples state count earlier out₀ state₀ count₀ earlier₀ n₀ i₀ out state' count' earlier' n i = length samples - i
 
-loop-holds : tie.Need-loop-init invariant-loop decreases-loop
+loop-holds : tie.Need-loop-i-init invariant-loop decreases-loop
 loop-holds c =
-    let b = c.before.before.before in
-    let a = b.args in
-    let p = b.requires in (
+    let a = c.before.before.before.args in
+    let p = c.before.before.before.requires in (
       p.0.whole,
       p.0.few,
       p.1,
@@ -32,88 +31,80 @@ loop-holds c =
           a.earlier refl (p.0.state_fits, p.0.count_fits),
     )
 
-mul-sample : tie.Need-overflow-mul-sample invariant-loop decreases-loop
+mul-sample : tie.Need-offset_bounds-samples-i invariant-loop decreases-loop
 mul-sample c = search rules
 
-shared-slice-read-sample : tie.Need-shared-slice-read-sample invariant-loop decreases-loop
+shared-slice-read-sample : tie.Need-bounds-samples-i invariant-loop decreases-loop
 shared-slice-read-sample c = search rules
 
-sources-of-requires : tie.Need-sources-of-requires invariant-loop decreases-loop
+sources-of-requires : tie.Need-sources_of-requires invariant-loop decreases-loop
 sources-of-requires c κs = search rules
 
-addresses-of-requires : tie.Need-addresses-of-requires invariant-loop decreases-loop
+addresses-of-requires : tie.Need-addresses_of-addresses-requires invariant-loop decreases-loop
 addresses-of-requires c κs = search rules
 
-capture-matches-requires : tie.Need-capture-matches-requires invariant-loop decreases-loop
+capture-matches-requires : tie.Need-capture_matches-requires invariant-loop decreases-loop
 capture-matches-requires c κs = search rules
 
-put-word-requires : tie.Need-put-word-requires invariant-loop decreases-loop
+put-word-requires : tie.Need-put_word-n-requires invariant-loop decreases-loop
 put-word-requires c κs = search rules
 
-move-on-requires : tie.Need-move-on-requires invariant-loop decreases-loop
+move-on-requires : tie.Need-move_on-moved-requires invariant-loop decreases-loop
 move-on-requires c κs =
-    let l = c.before.before.before.before.before.before.before.before.before in
-    let a = l.before.before.before.before.args in
-    let w = number_within ((plain a.table.now).word l.loop.state) in
-    (search rules, search rules, omega (arith, l.loop.invariant.3.stands.1, w.1))
+    let a = c.before.before.before.before.before.before.before.before.before.before.before.before.before.args in
+    let w = number_within ((plain a.table.now).word c.before.before.before.before.before.before.before.before.before.loop-i.state) in
+    (search rules, search rules, omega (arith, c.before.before.before.before.before.before.before.before.before.loop-i.invariant.3.stands.1, w.1))
 
-add-i : tie.Need-overflow-add-i invariant-loop decreases-loop
+add-i : tie.Need-overflow_add-i invariant-loop decreases-loop
 add-i c = search rules
 
 -- the sample was looked at
-turned : (c : tie.After-move-on invariant-loop decreases-loop)
-    → let p = c.before.before.before in
-    let l = p.before.before.before.before.before.before.before in
-    let a = l.before.before.before.before.args in
-    Walking (plain a.table.now) a.samples.now (run_from a.state a.count a.earlier) a.out.now (l.loop.i + 1)
-    p.put_word.result (standing c.move-on.result (get_or a.samples.now l.loop.i 0)) p.put_word.new.0
+turned : (c : tie.After-move_on-moved invariant-loop decreases-loop)
+    → 
+    let a = c.before.before.before.before.before.before.before.before.before.before.before.before.before.before.args in
+    Walking (plain a.table.now) a.samples.now (run_from a.state a.count a.earlier) a.out.now (c.before.before.before.before.before.before.before.before.before.before.loop-i.i + 1)
+    c.before.before.before.put_word-n.result (standing c.move_on-moved.result (get_or a.samples.now c.before.before.before.before.before.before.before.before.before.before.loop-i.i 0)) c.before.before.before.put_word-n.new.out
 unfolding plain
 turned c =
-    let p = c.before.before.before in
-    let f = p.before.before.before in
-    let e = f.addresses-of.ensures in
-    let l = f.before.before.before.before in
-    let a = l.before.before.before.before.args in
-    walk_turns (plain a.table.now) a.samples.now (run_from a.state a.count a.earlier) a.out.now l.loop.i l.loop.n
-    l.loop.state l.loop.count l.loop.earlier l.loop.out l.loop.invariant.3 f.before.before.before.loop-test.true _ _ _ _ _ _
-    refl f.before.sources-of.ensures (p.before.capture-matches.ensures _ e) p.put_word.ensures.0 p.put_word.ensures.1
-    (c.move-on.ensures _ e)
+    let e = c.before.before.before.before.before.before.addresses_of-addresses.ensures in
+    let a = c.before.before.before.before.before.before.before.before.before.before.before.before.before.before.args in
+    walk_turns (plain a.table.now) a.samples.now (run_from a.state a.count a.earlier) a.out.now c.before.before.before.before.before.before.before.before.before.before.loop-i.i c.before.before.before.before.before.before.before.before.before.before.loop-i.n
+    c.before.before.before.before.before.before.before.before.before.before.loop-i.state c.before.before.before.before.before.before.before.before.before.before.loop-i.count c.before.before.before.before.before.before.before.before.before.before.loop-i.earlier c.before.before.before.before.before.before.before.before.before.before.loop-i.out c.before.before.before.before.before.before.before.before.before.before.loop-i.invariant.3 c.before.before.before.before.before.before.before.before.before.loop-i-test.true _ _ _ _ _ _
+    refl c.before.before.before.before.before.before.before.sources_of.ensures (c.before.before.before.before.capture_matches.ensures _ e) c.before.before.before.put_word-n.ensures.0 c.before.before.before.put_word-n.ensures.1
+    (c.move_on-moved.ensures _ e)
 
-same_length : tie.Need-same-length invariant-loop decreases-loop
+same_length : tie.Need-shape_of-out-then-moved invariant-loop decreases-loop
 same_length c = search rules
 
-returns : tie.Need-returns invariant-loop decreases-loop
+returns : tie.Need-returns-then-moved invariant-loop decreases-loop
 returns c =
-    let l = c.before.before.before.before.before.before.before.before.before.before.before in
-    let a = l.before.before.before.before.args in
-    walk_stops (plain a.table.now) a.samples.now a.state a.count a.earlier a.out.now _ _ _ _ c.before.move-on.result
-    (turned c.before) c.if1.true
+    let a = c.before.before.before.before.before.before.before.before.before.before.before.before.before.before.before.args in
+    walk_stops (plain a.table.now) a.samples.now a.state a.count a.earlier a.out.now _ _ _ _ c.before.move_on-moved.result
+    (turned c.before) c.if-moved.true
 
-loop-less : tie.Need-loop-smaller invariant-loop decreases-loop
+loop-less : tie.Need-loop-i-smaller invariant-loop decreases-loop
 loop-less c = search rules
 
-loop-again : tie.Need-loop-preserved invariant-loop decreases-loop
+loop-again : tie.Need-loop-i-preserved invariant-loop decreases-loop
 loop-again c =
-    let l = c.before.before.before.before.before.before.before.before.before.before.before in
-    let a = l.before.before.before.before.args in (
-      l.loop.invariant.0,
-      l.loop.invariant.1,
-      l.loop.invariant.2,
+    let a = c.before.before.before.before.before.before.before.before.before.before.before.before.before.before.before.args in (
+      c.before.before.before.before.before.before.before.before.before.before.before.loop-i.invariant.0,
+      c.before.before.before.before.before.before.before.before.before.before.before.loop-i.invariant.1,
+      c.before.before.before.before.before.before.before.before.before.before.before.loop-i.invariant.2,
       walk_on (plain a.table.now) a.samples.now (run_from a.state a.count a.earlier) a.out.now _ _ _ _
-          c.before.move-on.result (turned c.before) c.if1.false,
+          c.before.move_on-moved.result (turned c.before) c.if-moved.false,
     )
 
-same-length-2 : tie.Need-same-length-2 invariant-loop decreases-loop
+same-length-2 : tie.Need-shape_of-out invariant-loop decreases-loop
 same-length-2 c = search rules
 
-returns-2 : tie.Need-returns-2 invariant-loop decreases-loop
+returns-2 : tie.Need-returns invariant-loop decreases-loop
 returns-2 c =
-    let l = c.before in
-    let a = l.before.before.before.before.args in
-    walk_ends (plain a.table.now) a.samples.now a.state a.count a.earlier a.out.now _ _ _ _ _ _ l.loop.invariant.3 (omega arith)
+    let a = c.before.before.before.before.before.args in
+    walk_ends (plain a.table.now) a.samples.now a.state a.count a.earlier a.out.now _ _ _ _ _ _ c.before.loop-i.invariant.3 (omega arith)
 
-pub walk-spec : {M : Type 1} → statement M
-walk-spec =
+pub walk_spec : {M : Type 1} → statement M
+walk_spec =
     tie.close
     (tie.spec
     invariant-loop

@@ -4,18 +4,15 @@ use borrow.Author.Rules.{rules}
 use Rattle.report.proofs.body.put_ending.Statement.{statement}
 use Rattle.report.proofs.body.put_ending.Tie as tie
 
-slice-aggregate-put : tie.Need-slice-aggregate-put
-slice-aggregate-put c = search rules
-
 put-requires : tie.Need-put-requires
 put-requires c κs = search rules
 
-same_length : tie.Need-same-length
+same_length : tie.Need-shape_of-out
 same_length c = search rules
 
 returns : tie.Need-returns
 unfolding ending_text
 returns c = c.before.before.put.ensures
 
-pub put-ending-spec : {M : Type 1} → statement M
-put-ending-spec = tie.close (tie.spec slice-aggregate-put put-requires same_length returns)
+pub put_ending_spec : {M : Type 1} → statement M
+put_ending_spec = tie.close (tie.spec put-requires same_length returns)

@@ -4,26 +4,26 @@ use borrow.Author.Rules.{rules}
 use Rattle.report.proofs.body.put_head.Statement.{statement}
 use Rattle.report.proofs.body.put_head.Tie as tie
 
-put-unaltered-requires : tie.Need-put-unaltered-requires
+put-unaltered-requires : tie.Need-put_unaltered-requires
 put-unaltered-requires c κs = search rules
 
-same_length : tie.Need-same-length
+same_length : tie.Need-shape_of-out-then-entries-eq0
 same_length c = search rules
 
-returns : tie.Need-returns
-returns c = rw c.before.before.before.before.if1.true c.before.before.put-unaltered.ensures
+returns : tie.Need-returns-then-entries-eq0
+returns c = rw c.before.before.before.before.if-entries-eq0.true c.before.before.put_unaltered.ensures
 
-put-counts-requires : tie.Need-put-counts-requires
+put-counts-requires : tie.Need-put_counts-requires
 put-counts-requires c κs = search rules
 
-same-length-2 : tie.Need-same-length-2
+same-length-2 : tie.Need-shape_of-out
 same-length-2 c = search rules
 
-returns-2 : tie.Need-returns-2
-returns-2 c = rw (head_some c.before.before.before.before.before.before.before.args.entries _ c.before.before.before.before.if1.false) c.before.before.put-counts.ensures
+returns-2 : tie.Need-returns
+returns-2 c = rw (head_some c.before.before.before.before.before.before.before.args.entries _ c.before.before.before.before.if-entries-eq0.false) c.before.before.put_counts.ensures
 
-pub put-head-spec : {M : Type 1} → statement M
-put-head-spec =
+pub put_head_spec : {M : Type 1} → statement M
+put_head_spec =
     tie.close
     (tie.spec
     put-unaltered-requires

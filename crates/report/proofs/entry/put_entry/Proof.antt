@@ -12,39 +12,35 @@ use Rattle.report.proofs.entry.put_entry.Statement.{statement}
 use Rattle.report.proofs.entry.put_entry.Tie as tie
 
 -- the line fits
-line-written : (c : tie.After-put-line)
-    → Wrote c.before.before.before.before.before.args.at (render c.before.before.before.before.before.args.line) c.before.before.before.before.before.args.out.now c.put-line.new.0 c.put-line.result
+line-written : (c : tie.After-put_line-a)
+    → Wrote c.before.before.before.before.before.args.at (render c.before.before.before.before.before.args.line) c.before.before.before.before.before.args.out.now c.put_line-a.new.out c.put_line-a.result
 line-written c =
-    let s = c.before.before.before.before.before in
-    put_wrote s.args.at (render s.args.line) s.args.out.now _ _ (omega (arith, line_most s.args.line, s.requires)) c.put-line.ensures
+    put_wrote c.before.before.before.before.before.args.at (render c.before.before.before.before.before.args.line) c.before.before.before.before.before.args.out.now _ _ (omega (arith, line_most c.before.before.before.before.before.args.line, c.before.before.before.before.before.requires)) c.put_line-a.ensures
 
-put-line-requires : tie.Need-put-line-requires
+put-line-requires : tie.Need-put_line-a-requires
 put-line-requires c κs = search rules
 
-put-saying-requires : tie.Need-put-saying-requires
+put-saying-requires : tie.Need-put_saying-b-requires
 put-saying-requires c κs =
-    let s = c.before.before.before.before.before.before.before.before in
     let w = line-written c.before.before.before in
-    omega (arith, w.next, c.before.before.before.put-line.auto.0, line_most s.args.line, s.requires)
+    omega (arith, w.next, c.before.before.before.put_line-a.auto.out, line_most c.before.before.before.before.before.before.before.before.args.line, c.before.before.before.before.before.before.before.before.requires)
 
-put-labels-requires : tie.Need-put-labels-requires
+put-labels-requires : tie.Need-put_labels-requires
 put-labels-requires c κs =
-    let s = c.before.before.before.before.before.before.before.before.before.before.before.before in
     let w = line-written c.before.before.before.before.before.before.before in
-    let v = c.before.before.before.put-saying in
-    omega (arith, w.next, c.before.before.before.before.before.before.before.put-line.auto.0, line_most s.args.line, v.ensures.next, v.auto.0, saying_most s.args.line.section s.args.line.finding, s.requires)
+    let v = c.before.before.before.put_saying-b in
+    omega (arith, w.next, c.before.before.before.before.before.before.before.put_line-a.auto.out, line_most c.before.before.before.before.before.before.before.before.before.before.before.before.args.line, v.ensures.next, v.auto.out, saying_most c.before.before.before.before.before.before.before.before.before.before.before.before.args.line.section c.before.before.before.before.before.before.before.before.before.before.before.before.args.line.finding, c.before.before.before.before.before.before.before.before.before.before.before.before.requires)
 
-same_length : tie.Need-same-length
+same_length : tie.Need-shape_of-out
 same_length c = search rules
 
 returns : tie.Need-returns
 returns c =
-    let s = c.before.before.before.before.before.before.before.before.before.before.before.before.before.before.before in
-    let h : s.args.at ≤ length s.args.out.now = omega (arith, s.requires) in
-    let w = wrote_then s.args.at _ _ _ _ _ _ _ h (line-written c.before.before.before.before.before.before.before.before.before.before) c.before.before.before.before.before.before.put-saying.ensures in
-    wrote_then s.args.at _ _ _ _ _ _ _ h w c.before.before.put-labels.ensures
+    let h : c.before.before.before.before.before.before.before.before.before.before.before.before.before.before.before.args.at ≤ length c.before.before.before.before.before.before.before.before.before.before.before.before.before.before.before.args.out.now = omega (arith, c.before.before.before.before.before.before.before.before.before.before.before.before.before.before.before.requires) in
+    let w = wrote_then c.before.before.before.before.before.before.before.before.before.before.before.before.before.before.before.args.at _ _ _ _ _ _ _ h (line-written c.before.before.before.before.before.before.before.before.before.before) c.before.before.before.before.before.before.put_saying-b.ensures in
+    wrote_then c.before.before.before.before.before.before.before.before.before.before.before.before.before.before.before.args.at _ _ _ _ _ _ _ h w c.before.before.put_labels.ensures
 
-pub put-entry-spec : {M : Type 1} → statement M
-put-entry-spec =
+pub put_entry_spec : {M : Type 1} → statement M
+put_entry_spec =
     tie.close
     (tie.spec put-line-requires put-saying-requires put-labels-requires same_length returns)

@@ -11,58 +11,44 @@ use borrow.Author.Rules.{rules}
 use Rattle.report.proofs.entry.put_label.Statement.{statement}
 use Rattle.report.proofs.entry.put_label.Tie as tie
 
-slice-aggregate-put-two : tie.Need-slice-aggregate-put-two
-slice-aggregate-put-two c = search rules
-
-put-two-requires : tie.Need-put-two-requires
+put-two-requires : tie.Need-put_two-requires
 put-two-requires c κs = search rules
 
-same_length : tie.Need-same-length
+same_length : tie.Need-shape_of-out-then-found-eq0
 same_length c = search rules
 
-returns : tie.Need-returns
-returns c = rw (label_none c.before.before.before.before.before.before.before.before.before.args.found.now c.before.before.before.before.before.if1.true) c.before.before.put_two.ensures
+returns : tie.Need-returns-then-found-eq0
+returns c = rw (label_none c.before.before.before.before.before.before.before.before.before.before.args.found.now c.before.before.before.before.before.before.if-found-eq0.true) c.before.before.put_two.ensures
 
-slice-aggregate-put-two-2 : tie.Need-slice-aggregate-put-two-2
-slice-aggregate-put-two-2 c = search rules
-
-put-two-requires-2 : tie.Need-put-two-requires-2
+put-two-requires-2 : tie.Need-put_two-next-requires
 put-two-requires-2 c κs = search rules
 
 label-requires : tie.Need-label-requires
 label-requires c κs = search rules
 
-slice-aggregate-put-two-3 : tie.Need-slice-aggregate-put-two-3
-slice-aggregate-put-two-3 c = search rules
-
-put-two-requires-3 : tie.Need-put-two-requires-3
+put-two-requires-3 : tie.Need-put_two-requires-2
 put-two-requires-3 c κs =
-    let s = c.before.before.before.before.before.before.before.before.before.before.before.before in
-    let w = c.before.before.before.before.before.put-two2 in
-    omega (arith, w.ensures.next, w.auto.0, length-append s.args.before.now (ascii "'"), ap length c.before.label.ensures, length-take label_size (drop 1 s.args.found.now), s.requires)
+    let w = c.before.before.before.before.before.before.put_two-next in
+    omega (arith, w.ensures.next, w.auto.out, length-append c.before.before.before.before.before.before.before.before.before.before.before.before.before.before.args.before.now (ascii "'"), ap length c.before.before.label.ensures, length-take label_size (drop 1 c.before.before.before.before.before.before.before.before.before.before.before.before.before.before.args.found.now), c.before.before.before.before.before.before.before.before.before.before.before.before.before.before.requires)
 
-same-length-2 : tie.Need-same-length-2
+same-length-2 : tie.Need-shape_of-out
 same-length-2 c = search rules
 
-returns-2 : tie.Need-returns-2
+returns-2 : tie.Need-returns
 returns-2 c =
-    let s = c.before.before.before.before.before.before.before.before.before.before.before.before.before.before.before in
-    let h : s.args.at ≤ length s.args.out.now = omega (arith, s.requires) in
-    let w = wrote_then s.args.at _ _ _ _ _ _ _ h c.before.before.before.before.before.before.before.before.put-two2.ensures c.before.before.put-two3.ensures in
-    rw (label_some s.args.before.now s.args.found.now c.before.before.before.before.before.before.before.before.before.before.before.if1.false) (rw c.before.before.before.before.label.ensures at w)
+    let h : c.before.before.before.before.before.before.before.before.before.before.before.before.before.before.before.before.before.args.at ≤ length c.before.before.before.before.before.before.before.before.before.before.before.before.before.before.before.before.before.args.out.now = omega (arith, c.before.before.before.before.before.before.before.before.before.before.before.before.before.before.before.before.before.requires) in
+    let w = wrote_then c.before.before.before.before.before.before.before.before.before.before.before.before.before.before.before.before.before.args.at _ _ _ _ _ _ _ h c.before.before.before.before.before.before.before.before.before.put_two-next.ensures c.before.before.put_two-2.ensures in
+    rw (label_some c.before.before.before.before.before.before.before.before.before.before.before.before.before.before.before.before.before.args.before.now c.before.before.before.before.before.before.before.before.before.before.before.before.before.before.before.before.before.args.found.now c.before.before.before.before.before.before.before.before.before.before.before.before.before.if-found-eq0.false) (rw c.before.before.before.before.before.label.ensures at w)
 
-pub put-label-spec : {M : Type 1} → statement M
-put-label-spec =
+pub put_label_spec : {M : Type 1} → statement M
+put_label_spec =
     tie.close
     (tie.spec
-    slice-aggregate-put-two
     put-two-requires
     same_length
     returns
-    slice-aggregate-put-two-2
     put-two-requires-2
     label-requires
-    slice-aggregate-put-two-3
     put-two-requires-3
     same-length-2
     returns-2)

@@ -10,43 +10,30 @@ use borrow.Author.Rules.{rules}
 use Rattle.report.proofs.entry.put_labels.Statement.{statement}
 use Rattle.report.proofs.entry.put_labels.Tie as tie
 
-slice-aggregate-put-label : tie.Need-slice-aggregate-put-label
-slice-aggregate-put-label c = search rules
-
-put-label-requires : tie.Need-put-label-requires
+put-label-requires : tie.Need-put_label-a-requires
 put-label-requires c κs = search rules
 
-slice-aggregate-put-label-2 : tie.Need-slice-aggregate-put-label-2
-slice-aggregate-put-label-2 c = search rules
-
-put-label-requires-2 : tie.Need-put-label-requires-2
-put-label-requires-2 c κs = omega (arith, c.before.before.before.before.put-label.ensures.next, c.before.before.before.before.put-label.auto.0, length-append (ascii "    old label ") (label_text c.before.before.before.before.before.before.before.before.before.before.args.old.now), label_most c.before.before.before.before.before.before.before.before.before.before.args.old.now, c.before.before.before.before.before.before.before.before.before.before.requires)
-
-slice-aggregate-put : tie.Need-slice-aggregate-put
-slice-aggregate-put c = search rules
+put-label-requires-2 : tie.Need-put_label-b-requires
+put-label-requires-2 c κs = omega (arith, c.before.before.before.before.before.put_label-a.ensures.next, c.before.before.before.before.before.put_label-a.auto.out, length-append (ascii "    old label ") (label_text c.before.before.before.before.before.before.before.before.before.before.before.before.args.old.now), label_most c.before.before.before.before.before.before.before.before.before.before.before.before.args.old.now, c.before.before.before.before.before.before.before.before.before.before.before.before.requires)
 
 put-requires : tie.Need-put-requires
-put-requires c κs = omega (arith, c.before.before.before.before.before.before.before.before.before.put-label.ensures.next, c.before.before.before.before.before.before.before.before.before.put-label.auto.0, length-append (ascii "    old label ") (label_text c.before.before.before.before.before.before.before.before.before.before.before.before.before.before.before.args.old.now), label_most c.before.before.before.before.before.before.before.before.before.before.before.before.before.before.before.args.old.now, c.before.before.before.before.put-label2.ensures.next, c.before.before.before.before.put-label2.auto.0, length-append (ascii ", new label ") (label_text c.before.before.before.before.before.before.before.before.before.before.before.before.before.before.before.args.new.now), label_most c.before.before.before.before.before.before.before.before.before.before.before.before.before.before.before.args.new.now, c.before.before.before.before.before.before.before.before.before.before.before.before.before.before.before.requires)
+put-requires c κs = omega (arith, c.before.before.before.before.before.before.before.before.before.before.before.put_label-a.ensures.next, c.before.before.before.before.before.before.before.before.before.before.before.put_label-a.auto.out, length-append (ascii "    old label ") (label_text c.before.before.before.before.before.before.before.before.before.before.before.before.before.before.before.before.before.before.args.old.now), label_most c.before.before.before.before.before.before.before.before.before.before.before.before.before.before.before.before.before.before.args.old.now, c.before.before.before.before.before.put_label-b.ensures.next, c.before.before.before.before.before.put_label-b.auto.out, length-append (ascii ", new label ") (label_text c.before.before.before.before.before.before.before.before.before.before.before.before.before.before.before.before.before.before.args.new.now), label_most c.before.before.before.before.before.before.before.before.before.before.before.before.before.before.before.before.before.before.args.new.now, c.before.before.before.before.before.before.before.before.before.before.before.before.before.before.before.before.before.before.requires)
 
-same_length : tie.Need-same-length
+same_length : tie.Need-shape_of-out
 same_length c = search rules
 
 returns : tie.Need-returns
 returns c =
-    let s = c.before.before.before.before.before.before.before.before.before.before.before.before.before.before.before.before.before.before in
-    let h : s.args.at ≤ length s.args.out.now = omega (arith, s.requires) in
-    let w = wrote_then s.args.at _ _ _ _ _ _ _ h c.before.before.before.before.before.before.before.before.before.before.before.before.put-label.ensures c.before.before.before.before.before.before.before.put-label2.ensures in
-    wrote_then s.args.at _ _ _ _ _ _ _ h w c.before.before.put.ensures
+    let h : c.before.before.before.before.before.before.before.before.before.before.before.before.before.before.before.before.before.before.before.before.before.args.at ≤ length c.before.before.before.before.before.before.before.before.before.before.before.before.before.before.before.before.before.before.before.before.before.args.out.now = omega (arith, c.before.before.before.before.before.before.before.before.before.before.before.before.before.before.before.before.before.before.before.before.before.requires) in
+    let w = wrote_then c.before.before.before.before.before.before.before.before.before.before.before.before.before.before.before.before.before.before.before.before.before.args.at _ _ _ _ _ _ _ h c.before.before.before.before.before.before.before.before.before.before.before.before.before.before.put_label-a.ensures c.before.before.before.before.before.before.before.before.put_label-b.ensures in
+    wrote_then c.before.before.before.before.before.before.before.before.before.before.before.before.before.before.before.before.before.before.before.before.before.args.at _ _ _ _ _ _ _ h w c.before.before.put.ensures
 
-pub put-labels-spec : {M : Type 1} → statement M
-put-labels-spec =
+pub put_labels_spec : {M : Type 1} → statement M
+put_labels_spec =
     tie.close
     (tie.spec
-    slice-aggregate-put-label
     put-label-requires
-    slice-aggregate-put-label-2
     put-label-requires-2
-    slice-aggregate-put
     put-requires
     same_length
     returns)

@@ -7,62 +7,61 @@ use borrow.Author.Rules.{rules}
 use Rattle.report.proofs.saying.put_altered.Statement.{statement}
 use Rattle.report.proofs.saying.put_altered.Tie as tie
 
-enum_told : tie.Need-enum-told
+enum_told : tie.Need-enum_told-1
 enum_told c = search rules
 
-put-bare-requires : tie.Need-put-bare-requires
+put-bare-requires : tie.Need-put_bare-requires
 put-bare-requires c κs = search rules
 
-enum-told-2 : tie.Need-enum-told-2
+enum-told-2 : tie.Need-enum_told-in-Sample
 enum-told-2 c = search rules
 
-put-shown-requires : tie.Need-put-shown-requires
+put-shown-requires : tie.Need-put_shown-requires
 put-shown-requires c κs = search rules
 
-enum-told-3 : tie.Need-enum-told-3
+enum-told-3 : tie.Need-enum_told-in-Samples
 enum-told-3 c = search rules
 
-put-shown-requires-2 : tie.Need-put-shown-requires-2
+put-shown-requires-2 : tie.Need-put_shown-requires-in-Samples
 put-shown-requires-2 c κs = search rules
 
-enum-known-input : tie.Need-enum-known-input
+enum-known-input : tie.Need-enum_known-input
 enum-known-input c = search rules
 
-put-shown-requires-3 : tie.Need-put-shown-requires-3
+put-shown-requires-3 : tie.Need-put_shown-next-requires
 put-shown-requires-3 c κs = search rules
 
-put-sources-requires : tie.Need-put-sources-requires
+put-sources-requires : tie.Need-put_sources-requires
 put-sources-requires c κs = search rules
 
-same_length : tie.Need-same-length
+same_length : tie.Need-shape_of-out-in-Nothing
 same_length c = search rules
 
-returns : tie.Need-returns
-returns c = rw c.before.before.before.before.enum_told.given.1 c.before.before.put-bare.ensures
+returns : tie.Need-returns-in-Nothing
+returns c = rw c.before.before.before.before.in-Nothing.is c.before.before.put_bare.ensures
 
-same-length-2 : tie.Need-same-length-2
+same-length-2 : tie.Need-shape_of-out-in-Sample
 same-length-2 c = search rules
 
-returns-2 : tie.Need-returns-2
-returns-2 c = rw c.before.before.before.before.enum-told2.given.1 c.before.before.put-shown.ensures
+returns-2 : tie.Need-returns-in-Sample
+returns-2 c = rw c.before.before.before.before.in-Sample.is c.before.before.put_shown.ensures
 
-same-length-3 : tie.Need-same-length-3
+same-length-3 : tie.Need-shape_of-out-in-Samples
 same-length-3 c = search rules
 
-returns-3 : tie.Need-returns-3
-returns-3 c = rw c.before.before.before.before.enum-told3.given.1 c.before.before.put-shown2.ensures
+returns-3 : tie.Need-returns-in-Samples
+returns-3 c = rw c.before.before.before.before.in-Samples.is c.before.before.put_shown-in-Samples.ensures
 
-same-length-4 : tie.Need-same-length-4
+same-length-4 : tie.Need-shape_of-out-in-Sources
 same-length-4 c = search rules
 
-returns-4 : tie.Need-returns-4
+returns-4 : tie.Need-returns-in-Sources
 returns-4 c =
-    let s = c.before.before.before.before.before.before.before.before.before.before.before.before in
-    let h : s.args.at ≤ length s.args.out.now = omega (arith, s.requires) in
-    rw c.before.before.before.before.before.before.before.before.before.input.given.1 (wrote_then s.args.at _ _ _ _ _ _ _ h c.before.before.before.before.before.before.put-shown3.ensures c.before.before.put-sources.ensures)
+    let h : c.before.before.before.before.before.before.before.before.before.before.args.at ≤ length c.before.before.before.before.before.before.before.before.before.before.args.out.now = omega (arith, c.before.before.before.before.before.before.before.before.before.before.requires) in
+    rw c.before.before.before.before.before.before.before.before.in-Sources.is (wrote_then c.before.before.before.before.before.before.before.before.before.before.args.at _ _ _ _ _ _ _ h c.before.before.before.before.before.before.put_shown-next.ensures c.before.before.put_sources.ensures)
 
-pub put-altered-spec : {M : Type 1} → statement M
-put-altered-spec =
+pub put_altered_spec : {M : Type 1} → statement M
+put_altered_spec =
     tie.close
     (tie.spec
     enum_told

@@ -9,67 +9,48 @@ use borrow.Author.Rules.{rules}
 use Rattle.report.proofs.sources.put_sources.Statement.{statement}
 use Rattle.report.proofs.sources.put_sources.Tie as tie
 
-slice-aggregate-put : tie.Need-slice-aggregate-put
-slice-aggregate-put c = search rules
-
-put-requires : tie.Need-put-requires
+put-requires : tie.Need-put-a-requires
 put-requires c κs = search rules
 
-slice-aggregate-put-two : tie.Need-slice-aggregate-put-two
-slice-aggregate-put-two c = search rules
-
-slice-aggregate-put-two-2 : tie.Need-slice-aggregate-put-two-2
-slice-aggregate-put-two-2 c = search rules
-
-put-two-requires : tie.Need-put-two-requires
+put-two-requires : tie.Need-put_two-requires
 put-two-requires c κs = search rules
 
-same_length : tie.Need-same-length
+same_length : tie.Need-shape_of-out-then-pattern-eq0
 same_length c = search rules
 
-returns : tie.Need-returns
+returns : tie.Need-returns-then-pattern-eq0
 returns c =
-    let s = c.before.before.before.before.before.before.before.before.before.before.before.before.before in
-    let h : s.args.at ≤ length s.args.out.now = omega (arith, s.requires) in
-    let w = wrote_then s.args.at _ _ _ _ _ _ _ h c.before.before.before.before.before.before.before.before.before.put.ensures c.before.before.put_two.ensures in
-    rw (eq-eqb _ _ c.before.before.before.before.before.before.if1.true) w
+    let h : c.before.before.before.before.before.before.before.before.before.before.before.before.before.before.before.before.args.at ≤ length c.before.before.before.before.before.before.before.before.before.before.before.before.before.before.before.before.args.out.now = omega (arith, c.before.before.before.before.before.before.before.before.before.before.before.before.before.before.before.before.requires) in
+    let w = wrote_then c.before.before.before.before.before.before.before.before.before.before.before.before.before.before.before.before.args.at _ _ _ _ _ _ _ h c.before.before.before.before.before.before.before.before.before.before.before.put-a.ensures c.before.before.put_two.ensures in
+    rw (eq-eqb _ _ c.before.before.before.before.before.before.before.before.if-pattern-eq0.true) w
 
-put-names-requires : tie.Need-put-names-requires
+put-names-requires : tie.Need-put_names-b-requires
 put-names-requires c κs = search rules
 
-slice-aggregate-put-2 : tie.Need-slice-aggregate-put-2
-slice-aggregate-put-2 c = search rules
-
-put-requires-2 : tie.Need-put-requires-2
+put-requires-2 : tie.Need-put-requires
 put-requires-2 c κs =
-    let s = c.before.before.before.before.before.before.before.before.before.before.before.before.before in
-    let w = c.before.before.before.before.before.before.before.before.before.put in
-    let v = c.before.before.before.before.put-names in
-    omega (arith, w.ensures.next, w.auto.0, v.ensures.next, v.auto.0, names_most s.args.pattern, s.requires)
+    let w = c.before.before.before.before.before.before.before.before.before.before.put-a in
+    let v = c.before.before.before.before.before.put_names-b in
+    omega (arith, w.ensures.next, w.auto.out, v.ensures.next, v.auto.out, names_most c.before.before.before.before.before.before.before.before.before.before.before.before.before.before.before.args.pattern, c.before.before.before.before.before.before.before.before.before.before.before.before.before.before.before.requires)
 
-same-length-2 : tie.Need-same-length-2
+same-length-2 : tie.Need-shape_of-out
 same-length-2 c = search rules
 
-returns-2 : tie.Need-returns-2
+returns-2 : tie.Need-returns
 returns-2 c =
-    let s = c.before.before.before.before.before.before.before.before.before.before.before.before.before.before.before.before in
-    let h : s.args.at ≤ length s.args.out.now = omega (arith, s.requires) in
-    let w = wrote_then s.args.at _ _ _ _ _ _ _ h c.before.before.before.before.before.before.before.before.before.before.before.before.put.ensures c.before.before.before.before.before.before.before.put-names.ensures in
-    rw (ne_eqb _ _ c.before.before.before.before.before.before.before.before.before.if1.false) (wrote_then s.args.at _ _ _ _ _ _ _ h w c.before.before.put2.ensures)
+    let h : c.before.before.before.before.before.before.before.before.before.before.before.before.before.before.before.before.before.before.args.at ≤ length c.before.before.before.before.before.before.before.before.before.before.before.before.before.before.before.before.before.before.args.out.now = omega (arith, c.before.before.before.before.before.before.before.before.before.before.before.before.before.before.before.before.before.before.requires) in
+    let w = wrote_then c.before.before.before.before.before.before.before.before.before.before.before.before.before.before.before.before.before.before.args.at _ _ _ _ _ _ _ h c.before.before.before.before.before.before.before.before.before.before.before.before.before.put-a.ensures c.before.before.before.before.before.before.before.before.put_names-b.ensures in
+    rw (ne_eqb _ _ c.before.before.before.before.before.before.before.before.before.before.if-pattern-eq0.false) (wrote_then c.before.before.before.before.before.before.before.before.before.before.before.before.before.before.before.before.before.before.args.at _ _ _ _ _ _ _ h w c.before.before.put.ensures)
 
-pub put-sources-spec : {M : Type 1} → statement M
-put-sources-spec =
+pub put_sources_spec : {M : Type 1} → statement M
+put_sources_spec =
     tie.close
     (tie.spec
-    slice-aggregate-put
     put-requires
-    slice-aggregate-put-two
-    slice-aggregate-put-two-2
     put-two-requires
     same_length
     returns
     put-names-requires
-    slice-aggregate-put-2
     put-requires-2
     same-length-2
     returns-2)
