@@ -13,6 +13,7 @@ use Rattle.lut.specs.declared.Telling.{Telling}
 use Rattle.lut.specs.declared.Telling.TheVariants.{Alike, Apart}
 use Rattle.lut.specs.Telling.{NoneLess, Says, Least}
 use Rattle.peek.specs.Bytes.{Bytes}
+use Rattle.term.specs.Rule as term_rule
 use Rattle.term.specs.Description as term
 use Rattle.term.proofs.Theorems as term_theorems
 use Rattle.term.proofs.Ways as term_ways
@@ -48,5 +49,5 @@ pub least : (d e : List ℕ) (i : Input) → Bytes d → Bytes e → description
     → telling_of TERMS d e ≡ Apart i → NoneLess (shows_of TERMS d) (shows_of TERMS e) i
 unfolding description_fault shows_of telling_of kind_of term.telling
 least d e i bd be fd fe =
-    told_least _ _ (term.telling d e) i
+    told_least (term_rule.hit (term.from_bytes d)) (term_rule.hit (term.from_bytes e)) (term.telling d e) i
     (term_theorems.telling_least (term.from_bytes d) (term.from_bytes e) (term_ways.accepted d bd fd) (term_ways.accepted e be fe))

@@ -53,52 +53,52 @@ module _ (sample mask packed : ℕ) where
       let none : i ≡ 0 = omega arith in
       e ∙ ap (packed_from sample mask) none ∙ ap₂ (gathered 32) (div-one sample) (div-one mask)
 
-abbrev invariant-loop : tie.invariant-loop
+abbrev invariant-loop : tie.invariant-loop-i
 invariant-loop sample mask packed₀ i₀ packed i = (i ≤ 32) × (packed ≡ packed_from sample mask i)
 
-abbrev decreases-loop : tie.decreases-loop
+abbrev decreases-loop : tie.decreases-loop-i
 decreases-loop sample mask packed₀ i₀ packed i = i
 
-loop-holds : tie.Need-loop-init invariant-loop decreases-loop
+loop-holds : tie.Need-loop-i-init invariant-loop decreases-loop
 unfolding gathered
 loop-holds c = (omega arith, refl)
 
-sub-i : tie.Need-overflow-sub-i invariant-loop decreases-loop
+sub-i : tie.Need-overflow_sub-i invariant-loop decreases-loop
 sub-i c = search rules
 
-line-value-requires : tie.Need-line-value-requires invariant-loop decreases-loop
+line-value-requires : tie.Need-line_value-requires invariant-loop decreases-loop
 line-value-requires c κs = search rules
 
-line-value-requires-2 : tie.Need-line-value-requires-2 invariant-loop decreases-loop
+line-value-requires-2 : tie.Need-line_value-requires-then-line_value-eq1 invariant-loop decreases-loop
 line-value-requires-2 c κs = search rules
 
-loop-less : tie.Need-loop-smaller invariant-loop decreases-loop
+loop-less : tie.Need-loop-i-smaller-then-line_value-eq1 invariant-loop decreases-loop
 loop-less c = search rules
 
-loop-again : tie.Need-loop-preserved invariant-loop decreases-loop
+loop-again : tie.Need-loop-i-preserved-then-line_value-eq1 invariant-loop decreases-loop
 loop-again c =
-    let inside = c.before.before.before in (
+    (
       omega arith,
-      masked _ _ _ _ _ _ inside.loop-test.true inside.before.loop.invariant.0 inside.before.loop.invariant.1
-          c.before.before.line-value.ensures c.before.if1.true c.line-value2.ensures,
+      masked _ _ _ _ _ _ c.before.before.before.loop-i-test.true c.before.before.before.before.loop-i.invariant.0 c.before.before.before.before.loop-i.invariant.1
+          c.before.before.line_value.ensures c.before.if-line_value-eq1.true c.line_value-then-line_value-eq1.ensures,
     )
 
-loop-less-2 : tie.Need-loop-smaller-2 invariant-loop decreases-loop
+loop-less-2 : tie.Need-loop-i-smaller invariant-loop decreases-loop
 loop-less-2 c = search rules
 
-loop-again-2 : tie.Need-loop-preserved-2 invariant-loop decreases-loop
+loop-again-2 : tie.Need-loop-i-preserved invariant-loop decreases-loop
 loop-again-2 c =
-    let inside = c.before.before in (
+    (
       omega arith,
-      unmasked _ _ _ _ _ inside.loop-test.true inside.before.loop.invariant.0 inside.before.loop.invariant.1
-          c.before.line-value.ensures c.if1.false,
+      unmasked _ _ _ _ _ c.before.before.loop-i-test.true c.before.before.before.loop-i.invariant.0 c.before.before.before.loop-i.invariant.1
+          c.before.line_value.ensures c.if-line_value-eq1.false,
     )
 
 returns : tie.Need-returns invariant-loop decreases-loop
-returns c = whole _ _ _ _ (omega arith) c.before.loop.invariant.1
+returns c = whole _ _ _ _ (omega arith) c.before.loop-i.invariant.1
 
-pub voltamar-gather-walk-spec : {M : Type 1} → statement M
-voltamar-gather-walk-spec =
+pub voltamar_gather_walk_spec : {M : Type 1} → statement M
+voltamar_gather_walk_spec =
     tie.close
     (tie.spec
     invariant-loop

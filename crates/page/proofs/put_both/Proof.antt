@@ -5,28 +5,28 @@ use borrow.Author.Rules.{rules}
 use Rattle.page.proofs.put_both.Statement.{statement}
 use Rattle.page.proofs.put_both.Tie as tie
 
-add-needed : tie.Need-overflow-add-needed
+add-needed : tie.Need-overflow_add-needed
 add-needed c = search rules
 
-returns : tie.Need-returns
+returns : tie.Need-returns-then-out-needed
 returns c =
     let a = c.before.before.before.before.args in
-    no_room a.head.now a.body.now a.out.now c.if1.true
+    no_room a.head.now a.body.now a.out.now c.if-out-needed.true
 
-put-at-requires : tie.Need-put-at-requires
+put-at-requires : tie.Need-put_at-behind-requires
 put-at-requires c κs = search rules
 
-put-at-requires-2 : tie.Need-put-at-requires-2
+put-at-requires-2 : tie.Need-put_at-requires
 put-at-requires-2 c κs = search rules
 
-same_length : tie.Need-same-length
+same_length : tie.Need-shape_of-out
 same_length c = search rules
 
-returns-2 : tie.Need-returns-2
+returns-2 : tie.Need-returns
 returns-2 c =
     let a = c.before.before.before.before.before.before.before.before.before.before.before.before.args in
-    both_put a.head.now a.body.now a.out.now _ _ _ _ (omega (arith, c.before.before.before.before.before.before.before.before.if1.false)) c.before.before.before.before.before.before.put-at.ensures c.before.before.put-at2.ensures
+    both_put a.head.now a.body.now a.out.now _ _ _ _ (omega (arith, c.before.before.before.before.before.before.before.before.if-out-needed.false)) c.before.before.before.before.before.before.put_at-behind.ensures c.before.before.put_at.ensures
 
-pub put-both-spec : {M : Type 1} → statement M
-put-both-spec =
+pub put_both_spec : {M : Type 1} → statement M
+put_both_spec =
     tie.close (tie.spec add-needed returns put-at-requires put-at-requires-2 same_length returns-2)

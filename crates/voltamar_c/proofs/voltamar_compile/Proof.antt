@@ -8,18 +8,18 @@ use Rattle.voltamar_c.proofs.voltamar_compile.Tie as tie
 compile-requires : tie.Need-compile-requires
 compile-requires c κs = search rules
 
-hand-outcome-requires : tie.Need-hand-outcome-requires
+hand-outcome-requires : tie.Need-hand_outcome-requires
 hand-outcome-requires c κs = search rules
 
-same_length : tie.Need-same-length
+same_length : tie.Need-shape_of-out
 same_length c = search rules
 
 returns : tie.Need-returns
 returns c =
-    let handed = c.hand-outcome.ensures in
+    let handed = c.hand_outcome.ensures in
     let given = c.before.before.before.before.compile.ensures in
     (handed.0 ∙ ap outcome_number given.answer, (handed.1 ∙ ap outcome_place given.answer, given.left))
 
-pub voltamar-compile-spec : {M : Type 1} → statement M
-voltamar-compile-spec =
+pub voltamar_compile_spec : {M : Type 1} → statement M
+voltamar_compile_spec =
     tie.close (tie.spec compile-requires hand-outcome-requires same_length returns)

@@ -8,15 +8,15 @@ use Rattle.voltamar_c.proofs.voltamar_notice.Tie as tie
 notice-requires : tie.Need-notice-requires
 notice-requires c κs = search rules
 
-hand-noticed-requires : tie.Need-hand-noticed-requires
+hand-noticed-requires : tie.Need-hand_noticed-requires
 hand-noticed-requires c κs = search rules
 
-same_length : tie.Need-same-length
+same_length : tie.Need-shape_of-out
 same_length c = search rules
 
 returns : tie.Need-returns
 returns c =
-    let handed = c.hand-noticed.ensures in
+    let handed = c.hand_noticed.ensures in
     let given = c.before.before.before.before.before.notice.ensures.0 in (
       handed.0 ∙ ap noticed_number given.answer,
       (
@@ -25,6 +25,6 @@ returns c =
       ),
     )
 
-pub voltamar-notice-spec : {M : Type 1} → statement M
-voltamar-notice-spec =
+pub voltamar_notice_spec : {M : Type 1} → statement M
+voltamar_notice_spec =
     tie.close (tie.spec notice-requires hand-noticed-requires same_length returns)

@@ -8,17 +8,17 @@ use Rattle.voltamar_c.proofs.voltamar_read.Tie as tie
 read-requires : tie.Need-read-requires
 read-requires c κs = search rules
 
-hand-outcome-requires : tie.Need-hand-outcome-requires
+hand-outcome-requires : tie.Need-hand_outcome-requires
 hand-outcome-requires c κs = search rules
 
-same_length : tie.Need-same-length
+same_length : tie.Need-shape_of-out
 same_length c = search rules
 
 returns : tie.Need-returns
 returns c =
-    let handed = c.hand-outcome.ensures in
+    let handed = c.hand_outcome.ensures in
     let (given, says) = c.before.before.before.before.read.ensures in
     (handed.0 ∙ ap outcome_number given.answer, (handed.1 ∙ ap outcome_place given.answer, (given.left, rw given.answer at says)))
 
-pub voltamar-read-spec : {M : Type 1} → statement M
-voltamar-read-spec = tie.close (tie.spec read-requires hand-outcome-requires same_length returns)
+pub voltamar_read_spec : {M : Type 1} → statement M
+voltamar_read_spec = tie.close (tie.spec read-requires hand-outcome-requires same_length returns)

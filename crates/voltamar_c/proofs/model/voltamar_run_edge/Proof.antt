@@ -5,17 +5,17 @@ use borrow.Author.Rules.{rules}
 use Rattle.voltamar_c.proofs.model.voltamar_run_edge.Statement.{statement}
 use Rattle.voltamar_c.proofs.model.voltamar_run_edge.Tie as tie
 
-run-edge-requires : tie.Need-run-edge-requires
+run-edge-requires : tie.Need-run_edge-requires
 run-edge-requires c κs = search rules
 
-hand-answer-requires : tie.Need-hand-answer-requires
+hand-answer-requires : tie.Need-hand_answer-requires
 hand-answer-requires c κs = search rules
 
 returns : tie.Need-returns
 returns c =
-    let handed = c.hand-answer.ensures in
-    let ran = c.before.before.before.run-edge.ensures.0 in
+    let handed = c.hand_answer.ensures in
+    let ran = c.before.before.before.run_edge.ensures.0 in
     (handed.0 ∙ ap answer_number ran, (handed.1.0 ∙ ap answer_hit ran, handed.1.1 ∙ ap answer_place ran))
 
-pub voltamar-run-edge-spec : {M : Type 1} → statement M
-voltamar-run-edge-spec = tie.close (tie.spec run-edge-requires hand-answer-requires returns)
+pub voltamar_run_edge_spec : {M : Type 1} → statement M
+voltamar_run_edge_spec = tie.close (tie.spec run-edge-requires hand-answer-requires returns)

@@ -5,17 +5,17 @@ use borrow.Author.Rules.{rules}
 use Rattle.voltamar_c.proofs.model.voltamar_run_range.Statement.{statement}
 use Rattle.voltamar_c.proofs.model.voltamar_run_range.Tie as tie
 
-run-range-requires : tie.Need-run-range-requires
+run-range-requires : tie.Need-run_range-requires
 run-range-requires c κs = search rules
 
-hand-answer-requires : tie.Need-hand-answer-requires
+hand-answer-requires : tie.Need-hand_answer-requires
 hand-answer-requires c κs = search rules
 
 returns : tie.Need-returns
 returns c =
-    let handed = c.hand-answer.ensures in
-    let ran = c.before.before.before.run-range.ensures.0 in
+    let handed = c.hand_answer.ensures in
+    let ran = c.before.before.before.run_range.ensures.0 in
     (handed.0 ∙ ap answer_number ran, (handed.1.0 ∙ ap answer_hit ran, handed.1.1 ∙ ap answer_place ran))
 
-pub voltamar-run-range-spec : {M : Type 1} → statement M
-voltamar-run-range-spec = tie.close (tie.spec run-range-requires hand-answer-requires returns)
+pub voltamar_run_range_spec : {M : Type 1} → statement M
+voltamar_run_range_spec = tie.close (tie.spec run-range-requires hand-answer-requires returns)
