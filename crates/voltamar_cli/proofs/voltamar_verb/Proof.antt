@@ -3,21 +3,21 @@ use borrow.Author.Rules.{rules}
 use Rattle.voltamar_cli.proofs.voltamar_verb.Statement.{statement}
 use Rattle.voltamar_cli.proofs.voltamar_verb.Tie as tie
 
-verb-of-requires : tie.Need-verb-of-requires
+verb-of-requires : tie.Need-verb_of-requires
 verb-of-requires c κs = search rules
 
-run-requires : tie.Need-run-requires
+run-requires : tie.Need-run-ended-requires
 run-requires c κs = search rules
 
-same_length : tie.Need-same-length
+same_length : tie.Need-shape_of-out
 same_length c = search rules
 
-same-length-2 : tie.Need-same-length-2
+same-length-2 : tie.Need-shape_of-err
 same-length-2 c = search rules
 
 returns : tie.Need-returns
-returns c = rw c.before.before.before.before.before.before.before.verb-of.ensures at c.before.before.before.before.run.ensures
+returns c = rw c.before.before.before.before.before.before.before.verb_of.ensures at c.before.before.before.before.run-ended.ensures
 
-pub voltamar-verb-spec : {M : Type 1} → statement M
-voltamar-verb-spec =
+pub voltamar_verb_spec : {M : Type 1} → statement M
+voltamar_verb_spec =
     tie.close (tie.spec verb-of-requires run-requires same_length same-length-2 returns)

@@ -4,35 +4,31 @@ use borrow.Author.Rules.{rules}
 use Rattle.verbs.proofs.line.say_no_number.Statement.{statement}
 use Rattle.verbs.proofs.line.say_no_number.Tie as tie
 
-slice-aggregate-put-two : tie.Need-slice-aggregate-put-two
-slice-aggregate-put-two c = search rules
-
-put-two-requires : tie.Need-put-two-requires
+put-two-requires : tie.Need-put_two-requires
 put-two-requires c κs = search rules
 
-enum-known-n : tie.Need-enum-known-n
+enum-known-n : tie.Need-enum_known-n
 enum-known-n c = search rules
 
-enum_told : tie.Need-enum-told
+enum_told : tie.Need-enum_told-1
 enum_told c = search rules
 
-same_length : tie.Need-same-length
+same_length : tie.Need-shape_of-err-in-Done
 same_length c = search rules
 
-returns : tie.Need-returns
-returns c = put_whole _ _ _ _ _ c.before.before.before.before.before.put_two.ensures c.before.n.given.1
+returns : tie.Need-returns-in-Done
+returns c = put_whole _ _ _ _ _ c.before.before.before.put_two.ensures c.in-Done.is
 
-same-length-2 : tie.Need-same-length-2
+same-length-2 : tie.Need-shape_of-err-in-Refused
 same-length-2 c = search rules
 
-returns-2 : tie.Need-returns-2
-returns-2 c = put_none _ _ _ _ _ _ c.before.before.before.before.put_two.ensures c.enum_told.given.1
+returns-2 : tie.Need-returns-in-Refused
+returns-2 c = put_none _ _ _ _ _ _ c.before.before.before.put_two.ensures c.in-Refused.is
 
-pub say-no-number-spec : {M : Type 1} → statement M
-say-no-number-spec =
+pub say_no_number_spec : {M : Type 1} → statement M
+say_no_number_spec =
     tie.close
     (tie.spec
-    slice-aggregate-put-two
     put-two-requires
     enum-known-n
     enum_told

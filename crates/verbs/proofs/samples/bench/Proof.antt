@@ -6,25 +6,25 @@ use borrow.Author.Rules.{rules}
 use Rattle.verbs.proofs.samples.bench.Statement.{statement}
 use Rattle.verbs.proofs.samples.bench.Tie as tie
 
-too-many-requires : tie.Need-too-many-requires
+too-many-requires : tie.Need-too_many-requires
 too-many-requires c κs = search rules
 
-returns : tie.Need-returns
+returns : tie.Need-returns-then-count-gt-MOST_SAMPLES
 returns c =
     let a = c.before.before.before.before.before.args in
-    too_many (verdict a.sheet.now) _ _ _ _ (many a.words.now c.before.if1.true) c.too_many.ensures
+    too_many (verdict a.sheet.now) _ _ _ _ (many a.words.now c.before.if-count-gt-MOST_SAMPLES.true) c.too_many.ensures
 
-bench-words-requires : tie.Need-bench-words-requires
+bench-words-requires : tie.Need-bench_words-requires
 bench-words-requires c κs = search rules
 
-same_length : tie.Need-same-length
+same_length : tie.Need-shape_of-out
 same_length c = search rules
 
-returns-2 : tie.Need-returns-2
+returns-2 : tie.Need-returns
 returns-2 c =
     let a = c.before.before.before.before.before.before.before.before.args in
-    all_words a.sheet.now a.words.now _ _ _ (omega (arith, c.before.before.before.before.if1.false)) c.before.before.bench-words.ensures
+    all_words a.sheet.now a.words.now _ _ _ (omega (arith, c.before.before.before.before.if-count-gt-MOST_SAMPLES.false)) c.before.before.bench_words.ensures
 
-pub bench-spec : {M : Type 1} → statement M
-bench-spec =
+pub bench_spec : {M : Type 1} → statement M
+bench_spec =
     tie.close (tie.spec too-many-requires returns bench-words-requires same_length returns-2)

@@ -12,17 +12,17 @@ use Rattle.verbs.proofs.samples.too_many.Tie as tie
 check-requires : tie.Need-check-requires
 check-requires c κs = search rules
 
-enum-known-number : tie.Need-enum-known-number
+enum-known-number : tie.Need-enum_known-number
 enum-known-number c = search rules
 
-enum_told : tie.Need-enum-told
+enum_told : tie.Need-enum_told-1
 enum_told c = search rules
 
-returns : tie.Need-returns
-returns c = sym (ap (λ (v : Verdict). came_of (unless v (Refused 20 most_samples) []) 0) (sym c.before.before.before.check.ensures.0 ∙ c.before.number.given.1))
+returns : tie.Need-returns-in-Refused
+returns c = sym (ap (λ (v : Verdict). came_of (unless v (Refused 20 most_samples) []) 0) (sym c.before.check.ensures.0 ∙ c.in-Refused.is))
 
-returns-2 : tie.Need-returns-2
-returns-2 c = sym (ap (λ (v : Verdict). came_of (unless v (Refused 20 most_samples) []) 0) (sym c.before.before.check.ensures.0 ∙ c.enum_told.given.1))
+returns-2 : tie.Need-returns-in-Accepted
+returns-2 c = sym (ap (λ (v : Verdict). came_of (unless v (Refused 20 most_samples) []) 0) (sym c.before.check.ensures.0 ∙ c.in-Accepted.is))
 
-pub too-many-spec : {M : Type 1} → statement M
-too-many-spec = tie.close (tie.spec check-requires enum-known-number enum_told returns returns-2)
+pub too_many_spec : {M : Type 1} → statement M
+too_many_spec = tie.close (tie.spec check-requires enum-known-number enum_told returns returns-2)

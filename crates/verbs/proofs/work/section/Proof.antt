@@ -8,44 +8,44 @@ use borrow.Author.Rules.{rules}
 use Rattle.verbs.proofs.work.section.Statement.{statement}
 use Rattle.verbs.proofs.work.section.Tie as tie
 
-is-decimal-requires : tie.Need-is-decimal-requires
+is-decimal-requires : tie.Need-is_decimal-requires
 is-decimal-requires c κs = search rules
 
-returns : tie.Need-returns
-returns c = not_asked _ _ _ (sym c.before.is-decimal.ensures ∙ not-true _ c.if1.true)
+returns : tie.Need-returns-then-not-is_decimal
+returns c = not_asked _ _ _ (sym c.before.is_decimal.ensures ∙ c.if-not-is_decimal.true)
 
 check-requires : tie.Need-check-requires
 check-requires c κs = search rules
 
-enum-known-fault : tie.Need-enum-known-fault
+enum-known-fault : tie.Need-enum_known-fault
 enum-known-fault c = search rules
 
-enum_told : tie.Need-enum-told
+enum_told : tie.Need-enum_told-1
 enum_told c = search rules
 
-section-asked-requires : tie.Need-section-asked-requires
+section-asked-requires : tie.Need-section_asked-requires
 section-asked-requires c κs = search rules
 
-section-requires : tie.Need-section-requires
+section-requires : tie.Need-section-part-requires
 section-requires c κs = search rules
 
-put-bytes-requires : tie.Need-put-bytes-requires
+put-bytes-requires : tie.Need-put_bytes-requires
 put-bytes-requires c κs = search rules
 
-of-outcome-requires : tie.Need-of-outcome-requires
+of-outcome-requires : tie.Need-of_outcome-requires
 of-outcome-requires c κs = search rules
 
-returns-2 : tie.Need-returns-2
-returns-2 c = asked _ _ _ _ _ (sym c.before.before.before.before.before.is-decimal.ensures ∙ not-false _ c.before.before.before.before.if1.false) (gives_refusal _ _ _ _ _ _ (sym c.before.before.before.check.ensures.0 ∙ c.before.fault.given.1))
+returns-2 : tie.Need-returns-in-Refused
+returns-2 c = asked _ _ _ _ _ (sym c.before.before.before.is_decimal.ensures ∙ c.before.before.if-not-is_decimal.false) (gives_refusal _ _ _ _ _ _ (sym c.before.check.ensures.0 ∙ c.in-Refused.is))
 
-same_length : tie.Need-same-length
+same_length : tie.Need-shape_of-out
 same_length c = search rules
 
-returns-3 : tie.Need-returns-3
-returns-3 c = asked _ _ _ _ _ (sym c.before.before.before.before.before.before.before.before.before.before.before.is-decimal.ensures ∙ not-false _ c.before.before.before.before.before.before.before.before.before.before.if1.false) (gives_accepted _ _ _ _ _ _ (sym c.before.before.before.before.before.before.before.before.before.check.ensures.0 ∙ c.before.before.before.before.before.before.before.enum_told.given.1) (delivers (c.before.before.before.before.before.section.ensures.holds ∙ ap (section_of _) c.before.before.before.before.before.before.section-asked.ensures) c.before.before.before.put-bytes.ensures) c.of-outcome.ensures)
+returns-3 : tie.Need-returns-in-Accepted
+returns-3 c = asked _ _ _ _ _ (sym c.before.before.before.before.before.before.before.before.before.before.is_decimal.ensures ∙ c.before.before.before.before.before.before.before.before.before.if-not-is_decimal.false) (gives_accepted _ _ _ _ _ _ (sym c.before.before.before.before.before.before.before.before.check.ensures.0 ∙ c.before.before.before.before.before.before.before.in-Accepted.is) (delivers (c.before.before.before.before.before.section-part.ensures.holds ∙ ap (section_of _) c.before.before.before.before.before.before.section_asked.ensures) c.before.before.before.put_bytes.ensures) c.of_outcome.ensures)
 
-pub section-spec : {M : Type 1} → statement M
-section-spec =
+pub section_spec : {M : Type 1} → statement M
+section_spec =
     tie.close
     (tie.spec
     is-decimal-requires
