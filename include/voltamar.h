@@ -1,5 +1,5 @@
 /* The static library of crates/voltamar_c. `./voltamar install PREFIX` puts it in place with this header and a pkg-config file; without
- * that, link libvoltamar_c.a, which `rt staticlib voltamar_c` writes to target/staticlib, and meaning.c, which stands beside this file.
+ * that, link libvoltamar_c.a, which `tools/archive voltamar_c` writes to target/staticlib, and meaning.c, which stands beside this file.
  *
  * What each call promises is proved, for every input: there is no input that it may not be given.
  *

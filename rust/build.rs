@@ -1,4 +1,4 @@
-// Links target/staticlib/libvoltamar_c.a of the repository, which `rt staticlib voltamar_c` writes. `cargo doc` and `cargo check` need
+// Links target/staticlib/libvoltamar_c.a of the repository, which `tools/archive voltamar_c` writes. `cargo doc` and `cargo check` need
 // no archive: only a program that is linked asks for it. The benchmark of gather names a second one itself, in the same folder.
 use std::path::Path;
 
@@ -9,7 +9,7 @@ fn main() {
     println!("cargo:rerun-if-changed={}", archive.display());
     println!("cargo:rerun-if-changed={}", folder.join("libgather_walk.a").display());
     if !archive.exists() {
-        println!("cargo:warning={} is missing: `rt staticlib voltamar_c` writes it", archive.display());
+        println!("cargo:warning={} is missing: `tools/archive voltamar_c` writes it", archive.display());
         return;
     }
     println!("cargo:rustc-link-search=native={}", folder.display());

@@ -762,17 +762,16 @@ pipes() {
 # ---- the script around the program, in a small tree whose prover pretends: it hands out the real archives
 
 make_tree() {
-    mkdir -p tree/crates/one/src kit/bin
+    mkdir -p tree/crates/one/src tree/crates/voltamar_cli tree/crates/voltamar_c kit/bin
     cp -r "$root/voltamar" "$root/program" "$root/include" "$root/LICENSE" tree
     printf 'one:\nvoltamar_cli: one io\nvoltamar_c: one\n' >tree/crates.txt
     : >tree/crates/one/src/lib.rt
     cat >kit/bin/rt <<EOF
 #!/bin/sh
 echo "\$* \$RT_JOBS \$TMPDIR" >>"$room/calls"
-echo 'rt: one proved (1 s)'
-mkdir -p target/staticlib
-if [ "\$1" = staticlib ]; then
-    cp "$root/target/staticlib/lib\$2.a" target/staticlib
+if [ "\$1" = lib ]; then
+    mkdir -p out
+    cp "$root/target/staticlib/lib\$2.a" out
     exit
 fi
 sleep "\${SLOW:-0}" &
@@ -806,7 +805,7 @@ first_build() {
     expect 'the first names its log' grep -q 'the log is .*/target/build.log' err1
     [ "$(grep -c 'one is proved, 1 of 2 crates left' err1)" = 1 ] || wrong 'the first names what is proved, once, and how many are left'
     expect 'what it rests on is proved first, several crates at a time' grep -q "^check one $(($(nproc) + 1)) " calls
-    expect 'then the archive is made' grep -q '^staticlib voltamar_cli ' calls
+    expect 'then the archive is made' grep -q '^lib voltamar_cli ' calls
     # shellcheck disable=SC2013
     for memory in $(grep -o '/dev/shm/voltamar.*' calls); do [ ! -e "$memory" ] || wrong "$memory is left in memory"; done
     status_is 0 'a second call' in_tree --version

@@ -46,6 +46,10 @@ MOVED = {
 }
 
 
+# Parameters, whose names no line declares by itself
+PARAMETERS = "ofSheet ofSamples ofRun ofRoom ofOld ofNew ofNeither lowTable highTable atZero atOne at-v told-at-01-aF told_at_01_aF".split()
+
+
 def law(name):
     return snake(name) + "_law"
 
@@ -136,6 +140,7 @@ def main():
         names.update({a: snake(a) for a in short if snake(a) != a})
         names.update({n: law(n) if n in LAWS else snake(n) for n in local.get(p, ()) if n in LAWS or snake(n) != n})
         names.update({n: law(n) for n in moved(p, t)})
+        names.update({n: snake(n) for n in PARAMETERS})
         for n in list(names):
             # a name that this file has from elsewhere, and not from a crate of the repository
             if n in outside and n not in ours and n not in local.get(p, ()):
@@ -151,7 +156,7 @@ def main():
             for line in t.split("\n"):
                 code, dash, comment = line.partition("--") if line.lstrip().startswith("--") else (line, "", "")
                 comment = re.sub(r"`[^`]*`", lambda m: turn(m.group(0), names, True), comment)
-                comment = turn(comment, names, False)
+                comment = turn(comment, names, "proofs/" in comment)
                 if dash:
                     comment = re.sub(r"(?<=theorem )\S+", lambda m: turn(m.group(0), names, True), comment)
                 lines.append(turn(code, names, True) + dash + comment)
@@ -163,7 +168,7 @@ def main():
                 bare = line.strip()
                 if bare.startswith("//"):
                     line = re.sub(r"`[^`]*`", lambda m: turn(m.group(0), names, True), line)
-                    line = turn(line, names, False)
+                    line = turn(line, names, "proofs/" in line)
                 else:
                     line = turn(line, names, bool(re.match(r"(ghost|requires|ensures)\b", bare)))
                 lines.append(line)

@@ -1,5 +1,5 @@
-//! Times gathering on wide masks: `cargo bench --offline --bench gather`, after `rt staticlib voltamar_c` and
-//! `rt staticlib gather_walk` at the top of the repository. Over a million random pairs of sample and mask, the mask
+//! Times gathering on wide masks: `cargo bench --offline --bench gather`, after `tools/archive voltamar_c` and
+//! `tools/archive gather_walk` at the top of the repository. Over a million random pairs of sample and mask, the mask
 //! of sixteen lines or more: nanoseconds a call of the library's gather, of a walk over the 32 lines in Rattle, which
 //! is there for this comparison alone, of the same walk, of one without a branch and of a loop over the masked lines in
 //! plain Rust and, where the processor has it, of its own instruction. All are compared before they are timed, run in

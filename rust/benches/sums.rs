@@ -1,5 +1,5 @@
 //! Times telling sums apart where it takes longest: `cargo bench --offline --bench sums`, after
-//! `rt staticlib voltamar_c` at the top of the repository. Two full sheets have 48 sums that all differ and all match
+//! `tools/archive voltamar_c` at the top of the repository. Two full sheets have 48 sums that all differ and all match
 //! alike, which a scan of the 65,536 patterns sees for each before anything is timed. Then the microseconds of the
 //! library's notice of the two sheets, of its 48 calls of sum_telling, of the same by halves in plain Rust, and of the
 //! scan, which makes the words once for each two sums and would end at the first pattern that tells. All run in turn,

@@ -25,6 +25,9 @@ enum Length {
 // The length that no sheet has, after the last case.
 const END_MARK: usize = 0xFFFF;
 
+// The most bytes of a sheet or of a stream in the file.
+const MOST: usize = 4096;
+
 // A byte as a wider number, with its bound.
 fn wide(x: u8) -> usize
     ensures { result < 256 }
@@ -32,28 +35,44 @@ fn wide(x: u8) -> usize
     x as usize
 }
 
-fn read_length(fd: i32) -> Length {
-    let mut two = [0u8; 2];
-    if io::read_full(fd, &mut two) == 2 {
-        Length::Is(wide(two[0]) + wide(two[1]) * 256)
-    } else {
-        Length::Missing
+// The next n bytes of the file, which are then behind; nothing where fewer are left.
+fn next_bytes<'a>(file: &'a [u8], at: &mut usize, n: usize) -> Option<&'a [u8]> {
+    let from = *at;
+    if from <= file.len() {
+        if n <= file.len() - from {
+            *at = from + n;
+            return Some(&file[from..from + n]);
+        }
+    }
+    None
+}
+
+fn read_length(file: &[u8], at: &mut usize) -> Length {
+    match next_bytes(file, at, 2) {
+        Some(two) => {
+            if two.len() == 2 {
+                Length::Is(wide(two[0]) + wide(two[1]) * 256)
+            } else {
+                Length::Missing
+            }
+        }
+        None => Length::Missing,
     }
 }
 
-// Whether n bytes were read to the start of the buffer.
-fn read_bytes(fd: i32, buf: &mut [u8], n: usize) -> bool {
-    if n <= buf.len() {
-        io::read_full(fd, &mut buf[0..n]) == n
+// The bytes of a sheet or of a stream, of which there are at most MOST.
+fn read_bytes<'a>(file: &'a [u8], at: &mut usize, n: usize) -> Option<&'a [u8]> {
+    if n <= MOST {
+        next_bytes(file, at, n)
     } else {
-        false
+        None
     }
 }
 
 // Whether the first n bytes of a buffer are these.
 fn begins(buf: &[u8], n: usize, with: &[u8]) -> bool {
     if n <= buf.len() {
-        check::same(&buf[0..n], with)
+        &buf[0..n] == with
     } else {
         false
     }
@@ -68,31 +87,26 @@ fn agrees(sheet: &[u8], stream: &[u8]) -> bool {
     }
 }
 
-// Compares the next case of the file.
-pub(crate) fn compare_next(fd: i32) -> Case {
-    let mut sheet = io::buffer();
-    let mut stream = io::buffer();
-    let Length::Is(n) = read_length(fd) else {
+// Compares the next case of the file, from an offset on, which is then behind it.
+pub(crate) fn compare_next(file: &[u8], at: &mut usize) -> Case {
+    let Length::Is(n) = read_length(file, at) else {
         return Case::Cut;
     };
     if n == END_MARK {
         return Case::End;
     }
-    if !read_bytes(fd, &mut sheet, n) {
-        return Case::Cut;
-    }
-    let Length::Is(m) = read_length(fd) else {
+    let Some(sheet) = read_bytes(file, at, n) else {
         return Case::Cut;
     };
-    if !read_bytes(fd, &mut stream, m) {
+    let Length::Is(m) = read_length(file, at) else {
         return Case::Cut;
+    };
+    let Some(stream) = read_bytes(file, at, m) else {
+        return Case::Cut;
+    };
+    if agrees(sheet, stream) {
+        Case::Agrees
+    } else {
+        Case::Differs
     }
-    if n <= sheet.len() {
-        if m <= stream.len() {
-            if agrees(&sheet[0..n], &stream[0..m]) {
-                return Case::Agrees;
-            }
-        }
-    }
-    Case::Differs
 }

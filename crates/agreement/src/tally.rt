@@ -1,4 +1,6 @@
 // How many cases there are, and how many agree.
+use std::io;
+
 use crate::cases::{Case, compare_next};
 
 #[derive(Clone, Copy)]
@@ -14,12 +16,13 @@ pub(crate) struct Tally {
 // More cases than a file may have: the walk ends whatever it holds.
 const TOO_MANY: u64 = 1000000;
 
-pub(crate) fn compare_all(fd: i32) -> Tally {
+pub(crate) fn compare_all(file: &[u8]) -> Tally {
+    let mut at: usize = 0;
     let mut cases: u64 = 0;
     let mut agree: u64 = 0;
     let mut first: u64 = 0;
     while cases < TOO_MANY {
-        match compare_next(fd) {
+        match compare_next(file, &mut at) {
             Case::End => {
                 return Tally {
                     cases,
@@ -56,17 +59,13 @@ pub(crate) fn compare_all(fd: i32) -> Tally {
 }
 
 // One line.
-pub(crate) fn say(tally: Tally, out: i32) {
-    io::print_decimal(out, tally.cases);
-    io::write_all(out, b" cases, ");
-    io::print_decimal(out, tally.agree);
-    io::write_all(out, b" agree");
+pub(crate) fn say(rt: &impl Print, tally: Tally) -> io::Result<()> {
+    print!(rt; "{} cases, {} agree", tally.cases, tally.agree)?;
     if tally.first != 0 {
-        io::write_all(out, b", the first that does not is ");
-        io::print_decimal(out, tally.first);
+        print!(rt; ", the first that does not is {}", tally.first)?;
     }
     if !tally.whole {
-        io::write_all(out, b", the file is cut");
+        print!(rt; ", the file is cut")?;
     }
-    io::write_all(out, b"\n");
+    println!(rt)
 }

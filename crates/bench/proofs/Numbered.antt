@@ -8,7 +8,6 @@ use lib.ListN.{length}
 use Rattle.buffer.specs.Verdict.{verdict_number, verdict_place, outcome_number, outcome_place}
 use Rattle.buffer.specs.declared.Outcome.{Outcome}
 use Rattle.buffer.specs.declared.Verdict.{Verdict}
-use Rattle.buffer.specs.declared.Verdict.TheVariants as Verdict
 use Rattle.sheet.specs.Reading.{verdict}
 use Rattle.bench.specs.declared.Run.{Run}
 use Rattle.bench.specs.declared.Benched.{Benched}

@@ -10,7 +10,6 @@ use lib.ListN.{length, take, drop}
 use lib.Seq.{take-append_seam}
 use Rattle.buffer.specs.Room.{fill}
 use Rattle.buffer.specs.declared.Verdict.{Verdict}
-use Rattle.buffer.specs.declared.Verdict.TheVariants as Verdict
 use Rattle.sheet.specs.Reading.{verdict}
 use Rattle.programme.specs.Machine.{Machine}
 use Rattle.bench.specs.declared.Run.{Run}

@@ -6,9 +6,7 @@ use native.Mathlib.Omega.{arith}
 use lib.ListN.{length}
 use Rattle.buffer.specs.Room.{Delivered, bytes}
 use Rattle.buffer.specs.declared.Outcome.{Outcome}
-use Rattle.buffer.specs.declared.Outcome.TheVariants as Outcome
 use Rattle.buffer.specs.declared.Verdict.{Verdict}
-use Rattle.buffer.specs.declared.Verdict.TheVariants as Verdict
 use Rattle.buffer.specs.Room as room
 use Rattle.buffer.proofs.Writing as writing
 use Rattle.sheet.specs.Reading.{verdict}
@@ -20,7 +18,7 @@ use Rattle.bench.specs.declared.Run.{Run}
 use Rattle.bench.specs.declared.Benched.{Benched}
 use Rattle.bench.specs.declared.Benched.TheVariants.{Refused}
 use Rattle.bench.specs.Run.{taken}
-use Rattle.bench.specs.Call.{answered, unless, machine_of, benched, left_by, benched_left}
+use Rattle.bench.specs.Call.{answered, machine_of, benched, left_by, benched_left}
 use Rattle.bench.specs.Walk.{Answers}
 use Rattle.bench.proofs.Agreeing.{answers_alike, taken_alike}
 use Rattle.bench.proofs.Calling.{left_alike}

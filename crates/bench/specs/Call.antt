@@ -3,7 +3,6 @@ use Rattle.std.specs.Prelude.{ℕ, Bool, cond, not, List, ◌≡◌, ltb, length
 use Rattle.buffer.specs.Room.{fill}
 use Rattle.buffer.specs.Verdict.{is_accepted, verdict_number, verdict_place}
 use Rattle.buffer.specs.declared.Verdict.{Verdict}
-use Rattle.buffer.specs.declared.Verdict.TheVariants as Verdict
 use Rattle.sheet.specs.Reading.{verdict}
 use Rattle.programme.specs.Programme.{programme_of}
 use Rattle.programme.specs.Machine.{Machine, through_words}

@@ -7,7 +7,6 @@ use Rattle.bench.specs.declared.Run.{Run}
 use Rattle.bench.specs.declared.Benched.{Benched}
 use Rattle.bench.specs.declared.Benched.TheVariants.{Done, Refused}
 use Rattle.buffer.specs.declared.Outcome.{Outcome}
-use Rattle.buffer.specs.declared.Outcome.TheVariants as Outcome
 
 -- whether words are a run's: five, each flag 0 or 1, and no earlier word where there is none [A13]
 unfoldable pub is_run : (words : List ℕ) → Bool

@@ -1,10 +1,10 @@
 -- Laws of verdicts: the first fault wins, and an accepted input has passed every test. Assumes nothing.
 use Prim.Native.Nat.{ℕ, zero, suc}
 use mathlib.Core.Path.{◌≡◌, refl}
-use mathlib.Core.Bool.{Bool, true, false, cond}
+use mathlib.Core.Bool.{Bool, true, false}
 use mathlib.Core.List.{List}
 use native.Mathlib.Omega.{arith}
-use Rattle.buffer.specs.Verdict.{and_then, refuse_if, refuse_fault, fault_unless, is_accepted}
+use Rattle.buffer.specs.Verdict.{and_then, refuse_if, refuse_fault, fault_unless}
 use Rattle.buffer.specs.Room.{bytes, unless}
 use Rattle.buffer.specs.declared.Verdict.{Verdict}
 use Rattle.buffer.specs.declared.Verdict.TheVariants.{Accepted, Refused}

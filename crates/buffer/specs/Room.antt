@@ -1,9 +1,7 @@
 -- What a call that writes has to answer, and what it leaves in the room that it was lent.
 use Rattle.std.specs.Prelude.{ℕ, ◌+◌, ◌≡◌, cond, List, ◌++◌, leb, length, take, drop}
 use Rattle.buffer.specs.declared.Verdict.{Verdict}
-use Rattle.buffer.specs.declared.Verdict.TheVariants as Verdict
 use Rattle.buffer.specs.declared.Outcome.{Outcome}
-use Rattle.buffer.specs.declared.Outcome.TheVariants as Outcome
 use Rattle.buffer.specs.Verdict.{outcome_number, outcome_place}
 
 -- what a call has to say: the bytes to be written, or a refusal by number and place [A1, A2]

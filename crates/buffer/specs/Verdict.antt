@@ -1,9 +1,7 @@
 -- Refusals: what a check finds, and that the first fault wins.
 use Rattle.std.specs.Prelude.{ℕ, zero, suc, Bool, true, false, cond, ◌≡◌, ◌↔◌}
 use Rattle.buffer.specs.declared.Verdict.{Verdict}
-use Rattle.buffer.specs.declared.Verdict.TheVariants as Verdict
 use Rattle.buffer.specs.declared.Outcome.{Outcome}
-use Rattle.buffer.specs.declared.Outcome.TheVariants as Outcome
 
 -- the earlier fault is the answer; the later verdict counts where there is none [O1, O5]
 abbrev pub and_then : Verdict → Verdict → Verdict

@@ -11,7 +11,7 @@ use Rattle.buffer.proofs.Faults.{and_then_accepted, and_then_both}
 use Rattle.peek.proofs.Numbers.{bytes_tail, bytes_drop, u32_drop, u32_read, u32_written}
 use Rattle.command.specs.Command.{select_op, load_op, command, loads, chain, Words}
 use Rattle.command.specs.Reading.{number, command_verdict, loads_verdict, words_in}
-use Rattle.command.proofs.Written.{length_loads, length_chain, words_tail}
+use Rattle.command.proofs.Written.{length_chain, words_tail}
 use Rattle.command.proofs.Checked.{command_there, command_ok}
 
 -- ---- what is written is read back, whatever stands behind it

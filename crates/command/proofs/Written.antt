@@ -10,7 +10,7 @@ use lib.ListN.{length, drop, get_or, drop_of_length-le}
 use lib.Seq.{drop-cons}
 use Rattle.peek.specs.Bytes.{Bytes, u32_bytes}
 use Rattle.peek.proofs.Numbers.{bytes_nil, bytes_cons, bytes_append, bytes_u32}
-use Rattle.command.specs.Command.{select_op, load_op, command, loads, chain, Words}
+use Rattle.command.specs.Command.{load_op, command, loads, chain, Words}
 
 -- ---- lengths
 

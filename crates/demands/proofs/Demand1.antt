@@ -11,7 +11,6 @@ use lib.ListN.{length, drop}
 use Rattle.peek.specs.Bytes.{Bytes}
 use Rattle.buffer.specs.Room.{Reply, Delivered}
 use Rattle.buffer.specs.declared.Outcome.{Outcome}
-use Rattle.buffer.specs.declared.Outcome.TheVariants as Outcome
 use Rattle.buffer.specs.declared.Verdict.TheVariants as Verdict
 use Rattle.buffer.proofs.Writing.{kept_refused, kept_beyond}
 use Rattle.lut.specs.Answer.{answer_number, answer_place, RunNumbered}
@@ -25,7 +24,6 @@ use Rattle.compiler.specs.Stream.{compiled}
 use Rattle.reader.specs.Judging.{stream_verdict}
 use Rattle.reader.specs.Back.{read_back}
 use Rattle.notice.specs.declared.Noticed.{Noticed}
-use Rattle.notice.specs.declared.Noticed.TheVariants as Noticed
 use Rattle.notice.specs.Notice.{notice_text, answer_of, noticed_number, NoticeGiven}
 
 -- ---- what is not accepted is answered by its refusal [D1.2]

@@ -10,10 +10,9 @@ use Rattle.lut.specs.Answer.{hit_or_miss}
 use Rattle.peek.specs.Bytes.{Bytes}
 use Rattle.buffer.specs.Room.{bytes, unless, outcome, Delivered}
 use Rattle.buffer.specs.declared.Outcome.{Outcome}
-use Rattle.buffer.specs.declared.Outcome.TheVariants.{Done, Refused}
+use Rattle.buffer.specs.declared.Outcome.TheVariants.{Done}
 use Rattle.buffer.specs.declared.Verdict.{Verdict}
 use Rattle.buffer.specs.declared.Verdict.TheVariants.{Accepted}
-use Rattle.buffer.specs.declared.Verdict.TheVariants as Verdict
 use Rattle.records.specs.Sections.{sections, field_of, description_of}
 use Rattle.kinds.specs.Table.{TERMS, RANGES, EDGES, STATES}
 use Rattle.sheet.specs.Reading.{verdict}

@@ -10,7 +10,6 @@ use Rattle.peek.specs.Bytes.{Bytes, u32_at}
 use Rattle.compare.specs.Within.{all_within}
 use Rattle.buffer.specs.Room.{Delivered}
 use Rattle.buffer.specs.declared.Outcome.{Outcome}
-use Rattle.buffer.specs.declared.Outcome.TheVariants as Outcome
 use Rattle.buffer.proofs.Writing.{answered}
 use Rattle.buffer.specs.declared.Verdict.TheVariants.{Accepted}
 use Rattle.lines.specs.Line.{flip_line, over_lines}
@@ -31,7 +30,6 @@ use Rattle.findings.specs.Findings.{shared_lines, slot_lines, lines_from, sectio
 use Rattle.notice.specs.Text as text
 use Rattle.notice.specs.Notice.{notice_text, slot_most, most_text, longest_notice, NoticeGiven}
 use Rattle.notice.specs.declared.Noticed.{Noticed}
-use Rattle.notice.specs.declared.Noticed.TheVariants as Noticed
 use Rattle.compiler.specs.Stream.{stream_of, longest_by, longest_stream, compiled}
 use Rattle.compiler.specs.Items.{size_of, item_size}
 use Rattle.reader.specs.Judging.{stream_verdict}

@@ -11,10 +11,8 @@ use Rattle.compare.proofs.Compare.{same_refl, same_true, same_lengths}
 use Rattle.lines.proofs.Truth.{both_true}
 use Rattle.lut.specs.Back.{ReadNumbered}
 use Rattle.lut.proofs.Numbers.{numbered_read, numbered_refused}
-use Rattle.edge.specs.declared.Edge.{Edge}
 use Rattle.edge.specs.declared.Event.TheVariants.{Rise, Fall, Neither}
 use Rattle.edge.specs.declared.ReadEdge.{ReadEdge}
-use Rattle.edge.specs.declared.ReadEdge.TheVariants as ReadEdge
 use Rattle.edge.specs.Rule.{edge_accepted, EdgeAccepted, Accepted}
 use Rattle.edge.specs.Words.{lower_table, upper_table, edge_words, words_of}
 use Rattle.edge.specs.Back.{ReadMeans, wish_of, read_as, read_edge, read_number, read_place}

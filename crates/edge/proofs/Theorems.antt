@@ -19,7 +19,6 @@ use Rattle.lut.proofs.Asked.{alike_on_pairs}
 use Rattle.lut.proofs.Runs.{run_needed}
 use Rattle.edge.specs.declared.Edge.{Edge}
 use Rattle.edge.specs.declared.ReadEdge.{ReadEdge}
-use Rattle.edge.specs.declared.ReadEdge.TheVariants as ReadEdge
 use Rattle.edge.specs.Rule.{hit_of, hit, Accepted}
 use Rattle.edge.specs.Words.{words_of}
 use Rattle.edge.specs.Model.{words_hit, run_edge}

@@ -15,9 +15,7 @@ use Rattle.peek.specs.Fields.{field_of, field_bytes, Writes}
 use Rattle.buffer.proofs.Faults.{unless_none}
 use Rattle.peek.proofs.Numbers.{u32_small}
 use Rattle.peek.proofs.FieldLaws.{fields_bytes, fields_read, fit₃, same₃}
-use Rattle.edge.specs.declared.Edge.{Edge}
 use Rattle.edge.specs.declared.ReadEdge.{ReadEdge}
-use Rattle.edge.specs.declared.ReadEdge.TheVariants as ReadEdge
 use Rattle.edge.specs.Rule.{edge_accepted, hit, Accepted}
 use Rattle.edge.specs.Words.{edge_words}
 use Rattle.edge.specs.Back.{read_edge, ReadMeans}

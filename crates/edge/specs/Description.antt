@@ -5,7 +5,6 @@ use Rattle.buffer.specs.Verdict.{fault_unless}
 use Rattle.peek.specs.Fields.{field_of, field_bytes}
 use Rattle.edge.specs.declared.Edge.{Edge}
 use Rattle.edge.specs.declared.ReadEdge.{ReadEdge}
-use Rattle.edge.specs.declared.ReadEdge.TheVariants as ReadEdge
 use Rattle.edge.specs.Rule.{edge_accepted}
 use Rattle.edge.specs.Words.{words_of}
 use Rattle.edge.specs.Back.{read_edge}

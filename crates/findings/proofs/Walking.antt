@@ -30,7 +30,6 @@ use Rattle.findings.specs.declared.Finding.{Finding}
 use Rattle.findings.specs.declared.Finding.TheVariants.{New, Gone, Name}
 use Rattle.findings.specs.declared.Line.{Line}
 use Rattle.findings.specs.declared.meet.Met.{Met}
-use Rattle.findings.specs.declared.meet.Met.TheVariants as Met
 use Rattle.findings.specs.Findings.{line, unless_same, shared_lines, slot_lines, lines_from, sections_lines, notice_lines}
 use Rattle.findings.specs.Walk.{part_by, record_by, change_lines, left_lines, walk_lines, part_lines, cursor_at, cursor_behind, cursor_named, walk_sections, lines_at, met_lines, StartsAll, IsRecordWith}
 

@@ -15,7 +15,6 @@ use Rattle.sheet.specs.declared.Judged.{Judged}
 use Rattle.findings.specs.declared.Cursor.{Cursor}
 use Rattle.findings.specs.declared.Line.{Line}
 use Rattle.findings.specs.declared.Step.{Step}
-use Rattle.findings.specs.declared.Step.TheVariants as Step
 use Rattle.findings.specs.Findings.{notice_lines}
 use Rattle.findings.specs.Walk.{part_by, part_lines, cursor_at, walk_sections, step_lines}
 use Rattle.findings.proofs.Walking.{sections_on, all_lines}

@@ -17,7 +17,6 @@ use Rattle.sheet.specs.Reading.{verdict}
 use Rattle.notice.specs.Notice.{first_refused}
 use Rattle.notice.specs.Notice as notice
 use Rattle.notice.specs.declared.Noticed.{Noticed}
-use Rattle.notice.specs.declared.Noticed.TheVariants as Noticed
 use Rattle.report.specs.Page.{body_text, longest_body, Reported}
 use Rattle.report.specs.Page as report
 use Rattle.report.proofs.Lengths.{at_most}

@@ -8,7 +8,7 @@ use native.Mathlib.Nat.{add-zero, not-suc-le-zero, div-div-eq-div-mul, div-add-m
 use lib.Arith.{digits_div, digits_mod}
 use lib.Dec.{lit<}
 use lib.ListN.{length, take, drop}
-use lib.Seq.{get_or-drop, get_or-take, take-append_seam, drop-append-add}
+use lib.Seq.{get_or-drop, get_or-take, drop-append-add}
 use Rattle.peek.specs.Bytes.{Bytes, u32_at, u32_bytes}
 
 -- ---- these numbers are bytes

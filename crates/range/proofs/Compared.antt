@@ -1,6 +1,6 @@
 -- The carry of a chain by one compare: the lines whose tables answer 0, those that are 1 apart from those that are 0.
 -- Assumes nothing.
-use Rattle.std.proofs.Common.{◌≡◌, ℕ, zero, suc, ◌+◌, ◌-◌, ◌*◌, ◌%◌, ◌^◌, ◌<◌, true, false, eqb, ltb, List, sym, refl, ap, ◌∙◌, ap₂, mod-lt, mod-eq_of_lt, arith, eqb→eq, pow_pos, le-ltb, lt-ltb}
+use Rattle.std.proofs.Common.{◌≡◌, ℕ, zero, suc, ◌+◌, ◌*◌, ◌%◌, ◌^◌, ◌<◌, true, false, eqb, ltb, List, sym, refl, ap, ◌∙◌, ap₂, mod-lt, mod-eq_of_lt, arith, eqb→eq, pow_pos, le-ltb, lt-ltb}
 use native.Mathlib.Nat.{mod-one}
 use lib.Bits.{bit_and, bit_or, bit_xor}
 use lib.Pow as pow

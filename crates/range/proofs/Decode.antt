@@ -15,7 +15,6 @@ use Rattle.lut.proofs.Numbers.{numbered_read, numbered_refused}
 use Rattle.lut.proofs.Tables.{one_lt}
 use Rattle.range.specs.declared.Range.{Range}
 use Rattle.range.specs.declared.ReadRange.{ReadRange}
-use Rattle.range.specs.declared.ReadRange.TheVariants as ReadRange
 use Rattle.range.specs.Rule.{RangeAccepted, Accepted}
 use Rattle.range.specs.Words.{table_for, chain_words, lower_value, upper_value, sent_words, words_of}
 use Rattle.range.specs.Model.{table_at}

@@ -14,7 +14,6 @@ use Rattle.lut.proofs.Asked.{alike_on_samples}
 use Rattle.lut.proofs.Runs.{run_needed}
 use Rattle.range.specs.declared.Range.{Range}
 use Rattle.range.specs.declared.ReadRange.{ReadRange}
-use Rattle.range.specs.declared.ReadRange.TheVariants as ReadRange
 use Rattle.range.specs.Rule.{hit_of, hit, Accepted}
 use Rattle.range.specs.Words.{words_of}
 use Rattle.range.specs.Model.{model_hit, run_range}

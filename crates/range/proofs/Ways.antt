@@ -4,16 +4,13 @@ use Rattle.std.proofs.Common.{◌≡◌, ℕ, zero, suc, ◌^◌, ◌<◌, ◌�
 use Rattle.peek.specs.Bytes.{Bytes}
 use Rattle.peek.specs.Fields.{field_of, field_bytes, Writes}
 use Rattle.peek.proofs.Numbers.{u32_small}
-use Rattle.peek.proofs.FieldLaws.{fields_bytes, fields_read, fields_written, fit₃, same₃}
-use Rattle.range.specs.declared.Range.{Range}
+use Rattle.peek.proofs.FieldLaws.{fields_bytes, fields_read, fit₃, same₃}
 use Rattle.range.specs.declared.ReadRange.{ReadRange}
-use Rattle.range.specs.declared.ReadRange.TheVariants as ReadRange
 use Rattle.range.specs.Rule.{range_fault, Accepted}
 use Rattle.range.specs.Words.{sent_words, lower_chain, upper_chain, lower_value, upper_value}
 use Rattle.range.specs.Back.{read_range}
-use Rattle.range.specs.Description.{size, from_bytes, to_bytes, fault, words, bytes_read, back}
+use Rattle.range.specs.Description.{size, from_bytes, fault, words, bytes_read, back}
 use Rattle.range.proofs.Faults.{fault_0}
-use Rattle.range.proofs.Carry.{upper_fits}
 use Rattle.range.proofs.Tables.{length_chain, chain_fits}
 use Rattle.range.proofs.Decode as decode
 use Rattle.range.proofs.Theorems.{words_read_back, bytes_inverse}

@@ -9,7 +9,6 @@ use Rattle.compare.specs.Same.{same}
 use Rattle.lut.specs.Table.{one_if}
 use Rattle.range.specs.declared.Range.{Range}
 use Rattle.range.specs.declared.ReadRange.{ReadRange}
-use Rattle.range.specs.declared.ReadRange.TheVariants as ReadRange
 use Rattle.range.specs.Rule.{RangeAccepted}
 use Rattle.range.specs.Words.{complement, sent_words, words_of}
 use Rattle.range.specs.Model.{table_at}

@@ -4,7 +4,6 @@ use Rattle.std.specs.Prelude.{ℕ, List, [], ◌∷◌}
 use Rattle.peek.specs.Fields.{field_of, field_bytes}
 use Rattle.range.specs.declared.Range.{Range}
 use Rattle.range.specs.declared.ReadRange.{ReadRange}
-use Rattle.range.specs.declared.ReadRange.TheVariants as ReadRange
 use Rattle.range.specs.Rule.{range_fault}
 use Rattle.range.specs.Words.{words_of}
 use Rattle.range.specs.Back.{read_range}

@@ -20,7 +20,6 @@ use Rattle.lines.proofs.Flip.{flip_lt, flip_masked, flip_unmasked, rank_lt}
 use Rattle.lut.specs.Telling.{HitAlike, TellsApart, Says}
 use Rattle.lut.specs.declared.Input.{Input}
 use Rattle.lut.specs.declared.Input.TheVariants.{Nothing, Sample, Samples, Sources}
-use Rattle.lut.proofs.Asked.{alike_on_samples}
 use Rattle.lut.specs.declared.Telling.{Telling}
 use Rattle.lut.specs.declared.Telling.TheVariants.{Alike, Apart}
 use Rattle.range.specs.declared.Range.{Range}

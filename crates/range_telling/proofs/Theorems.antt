@@ -1,20 +1,18 @@
 -- What is promised of lines that cannot matter in a range and of what tells two ranges apart. Assumes nothing.
-use mathlib.Core.Path.{◌≡◌, refl, sym, ap, subst, ◌∙◌}
+use mathlib.Core.Path.{◌≡◌, sym, ap, subst, ◌∙◌}
 use mathlib.Core.List.{List}
 use mathlib.Core.Logic.{◌↔◌}
 use Prim.Native.Nat.{ℕ, suc, ◌+◌, ◌^◌, ◌<◌, ◌∣◌}
 use lib.Count.{ones_in}
 use Rattle.lines.specs.Line.{line}
 use Rattle.lut.specs.Telling.{HitAlike, Says}
-use Rattle.lut.specs.declared.Telling.TheVariants.{Alike}
-use Rattle.lut.proofs.Asked.{alike_on_samples, alike_iff}
 use Rattle.range.specs.declared.Range.{Range}
-use Rattle.range.specs.Rule.{hit_of, hit, Accepted}
+use Rattle.range.specs.Rule.{hit, Accepted}
 use Rattle.range.specs.Words.{words_of}
 use Rattle.range_telling.specs.Matter.{CannotMatter, DroppedWords}
 use Rattle.range_telling.specs.Reduce.{reduce_of, Reduces}
 use Rattle.range_telling.specs.Telling.{range_telling}
-use Rattle.range_telling.proofs.Apart.{flip_hit, reduced, reduced_hit, reduced_alike, tells, alike_reduced}
+use Rattle.range_telling.proofs.Apart.{flip_hit, reduced, reduced_alike, tells, alike_reduced}
 use Rattle.range_telling.proofs.Dropped.{dropped_words, dropped_only}
 use Rattle.range_telling.proofs.Divides.{cannot_matter_iff}
 use Rattle.range.proofs.Theorems.{equal_words_alike}

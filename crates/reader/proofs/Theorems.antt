@@ -11,7 +11,6 @@ use lib.Seq.{take-append_seam}
 use Rattle.peek.specs.Bytes.{Bytes}
 use Rattle.buffer.specs.Room.{bytes, unless, fill, Delivered}
 use Rattle.buffer.specs.declared.Outcome.{Outcome}
-use Rattle.buffer.specs.declared.Outcome.TheVariants as Outcome
 use Rattle.buffer.specs.declared.Verdict.{Verdict}
 use Rattle.buffer.specs.declared.Verdict.TheVariants.{Accepted, Refused}
 use Rattle.buffer.proofs.Faults.{unless_bytes, no_refusal_law}

@@ -17,7 +17,6 @@ use Rattle.findings.specs.declared.Finding.{Finding}
 use Rattle.findings.specs.declared.Finding.TheVariants.{New, Gone, Name, Changed}
 use Rattle.findings.specs.declared.Line.{Line}
 use Rattle.findings.specs.declared.Step.{Step}
-use Rattle.findings.specs.declared.Step.TheVariants as Step
 use Rattle.findings.specs.Findings.{notice_lines}
 use Rattle.findings.specs.Walk.{lines_at, step_lines}
 use Rattle.report.specs.Page.{entry_text, entries_text, sort_of, how_many, entry_room, longest_body}

@@ -24,7 +24,7 @@ use Rattle.findings.specs.Findings.{line, unless_same, shared_lines, slot_lines,
 use Rattle.notice.specs.Text.{render}
 use Rattle.notice.proofs.Lengths.{line_most}
 use Rattle.notice.proofs.Lines.{render_length}
-use Rattle.report.specs.Words.{line_of, ending, altered_bare, stated, sources_text, sources, names_in, altered_text, saying_text, ending_text}
+use Rattle.report.specs.Words.{line_of, altered_bare, stated, sources_text, sources, names_in, altered_text, saying_text, ending_text}
 use Rattle.report.specs.Page.{label_text, labels_text, entry_text, entries_text, how_many, body_text, label_room, labels_room, entry_room, slots_of, longest_slot, longest_body}
 use Rattle.report.proofs.Naming.{names_most}
 use Rattle.report.proofs.Heads.{head_most}

@@ -1,6 +1,6 @@
 -- What the operation words do is what the rules say of the operations: one computed test over codes and addresses, passed by each
 -- of the three tables; and so a sum's words, run by the model, do what the tree of its operations says. Assumes nothing.
-use Prim.Native.Nat.{ℕ, ◌+◌, ◌*◌, ◌≤◌, ◌<◌}
+use Prim.Native.Nat.{ℕ, ◌+◌, ◌*◌, ◌≤◌}
 use mathlib.Core.Path.{◌≡◌, ap, ap₂, ◌∙◌}
 use mathlib.Core.Bool.{Bool, true, false, ◌&&◌, and_self}
 use mathlib.Core.List.{List, [], ◌∷◌}

@@ -10,14 +10,13 @@ use lib.ListN.{length, get_or, take, drop}
 use lib.Seq.{take-length}
 use Rattle.peek.specs.Fields.{field_of, fields_from, field_bytes}
 use Rattle.buffer.specs.declared.Verdict.{Verdict}
-use Rattle.buffer.specs.declared.Verdict.TheVariants as Verdict
 use Rattle.sheet.specs.Reading.{verdict}
 use Rattle.programme.specs.Machine.{Machine}
 use Rattle.bench.specs.declared.Run.{Run}
 use Rattle.bench.specs.declared.Benched.{Benched}
 use Rattle.bench.specs.declared.Benched.TheVariants.{Done, Refused}
-use Rattle.bench.specs.Run.{fresh, taken, start_accepted}
-use Rattle.bench.specs.Call.{most_samples, answered, machine_of, benched, benched_left}
+use Rattle.bench.specs.Run.{fresh, start_accepted}
+use Rattle.bench.specs.Call.{most_samples, machine_of, benched, benched_left}
 use Rattle.bench.proofs.Pieces.{taken_length}
 use Rattle.bench.proofs.Standing.{number_within, stands_accepted}
 use Rattle.bench.proofs.Succeeding.{does, sheet_accepted, bench_did, writes}

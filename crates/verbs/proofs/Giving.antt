@@ -10,19 +10,16 @@ use lib.ListN.{length, take, drop, length-append, take-append-drop}
 use Rattle.buffer.specs.Room.{bytes, fill, Delivered, Put}
 use Rattle.buffer.specs.Room as room
 use Rattle.buffer.specs.declared.Outcome.{Outcome}
-use Rattle.buffer.specs.declared.Outcome.TheVariants as Outcome
 use Rattle.buffer.specs.declared.Verdict.{Verdict}
 use Rattle.buffer.specs.declared.Verdict.TheVariants.{Accepted, Refused}
 use Rattle.buffer.proofs.Writing.{wrote, answered, length_write, put_wrote, wrote_then}
 use Rattle.refusal.specs.Line.{refusal_line}
 use Rattle.notice.specs.Notice.{notice_text, answer_of, left_by, NoticeGiven}
 use Rattle.notice.specs.declared.Noticed.{Noticed}
-use Rattle.notice.specs.declared.Noticed.TheVariants as Noticed
 use Rattle.page.specs.Files.{File}
 use Rattle.page.specs.Page.{page_text, is_shown, PageGiven}
 use Rattle.page.specs.Page as page
 use Rattle.page.specs.declared.Paged.{Paged}
-use Rattle.page.specs.declared.Paged.TheVariants as Paged
 use Rattle.peek.specs.Bytes.{Bytes}
 use Rattle.sheet.specs.Reading.{verdict}
 use Rattle.sheet.specs.Parsed.{longest_sheet, parse, render}

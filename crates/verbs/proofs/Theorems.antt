@@ -27,7 +27,7 @@ use Rattle.verbs.specs.declared.Ended.{Ended}
 use Rattle.page.specs.Files.{File}
 use Rattle.page.specs.Page.{is_shown, page_text}
 use Rattle.verbs.specs.Samples.{words_in, samples_verdict, taken_bytes}
-use Rattle.verbs.specs.Result.{bytes, first, second, unless, Gives}
+use Rattle.verbs.specs.Result.{bytes, first, second, Gives}
 use Rattle.verbs.specs.Run.{Does, Told, status_of, count_of, Ran}
 
 -- all went well: status 0, these bytes for standard output, nothing for standard error [T3, T8]

@@ -2,13 +2,10 @@
 use Rattle.std.specs.Prelude.{ℕ, ◌≤◌, ◌≡◌, cond, List, leb, length}
 use Rattle.buffer.specs.Room.{fill}
 use Rattle.buffer.specs.declared.Outcome.{Outcome}
-use Rattle.buffer.specs.declared.Outcome.TheVariants as Outcome
 use Rattle.buffer.specs.declared.Verdict.{Verdict}
 use Rattle.buffer.specs.declared.Verdict.TheVariants.{Accepted, Refused}
 use Rattle.notice.specs.declared.Noticed.{Noticed}
-use Rattle.notice.specs.declared.Noticed.TheVariants as Noticed
 use Rattle.page.specs.declared.Paged.{Paged}
-use Rattle.page.specs.declared.Paged.TheVariants as Paged
 use Rattle.verbs.specs.declared.Came.{Came}
 use Rattle.verbs.specs.declared.Came.TheVariants.{Done, First, Second, Shown, NoNumber, NoCall}
 

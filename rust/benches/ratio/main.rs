@@ -1,4 +1,4 @@
-//! Times the proved library beside plain Rust: `cargo bench --offline --bench ratio`, after `rt staticlib voltamar_c`
+//! Times the proved library beside plain Rust: `cargo bench --offline --bench ratio`, after `tools/archive voltamar_c`
 //! at the top of the repository. For each call it prints the nanoseconds of both (of the bench, those of a sample),
 //! their ratio, and the least and the greatest ratio of five rounds; then which calls are above 1.0. A round's time is
 //! the median of its turns, and what is printed the median of the rounds. Every turn has new inputs, made outside the

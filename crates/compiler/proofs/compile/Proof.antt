@@ -1,7 +1,5 @@
 -- `compiler::compile` meets its contract: the sheet's refusal, or what `put_stream` does for an accepted sheet.
 -- Assumes nothing.
-use mathlib.Core.Path.{sym}
-use native.Mathlib.Omega.{arith}
 use borrow.Author.Rules.{rules}
 use Rattle.buffer.proofs.Writing.{refused, accepted}
 use Rattle.sheet.proofs.Laid.{judged_accepted, judged_refusal}

@@ -76,23 +76,21 @@ loop-less : tie.Need-loop-i-smaller-then-line_value-eq1 invariant-loop decreases
 loop-less c = search rules
 
 loop-again : tie.Need-loop-i-preserved-then-line_value-eq1 invariant-loop decreases-loop
-loop-again c =
-    (
-      omega arith,
-      masked _ _ _ _ _ _ c.before.before.before.loop-i-test.true c.before.before.before.before.loop-i.invariant.0 c.before.before.before.before.loop-i.invariant.1
-          c.before.before.line_value.ensures c.before.if-line_value-eq1.true c.line_value-then-line_value-eq1.ensures,
-    )
+loop-again c = (
+  omega arith,
+  masked _ _ _ _ _ _ c.before.before.before.loop-i-test.true c.before.before.before.before.loop-i.invariant.0 c.before.before.before.before.loop-i.invariant.1
+      c.before.before.line_value.ensures c.before.if-line_value-eq1.true c.line_value-then-line_value-eq1.ensures,
+)
 
 loop-less-2 : tie.Need-loop-i-smaller invariant-loop decreases-loop
 loop-less-2 c = search rules
 
 loop-again-2 : tie.Need-loop-i-preserved invariant-loop decreases-loop
-loop-again-2 c =
-    (
-      omega arith,
-      unmasked _ _ _ _ _ c.before.before.loop-i-test.true c.before.before.before.loop-i.invariant.0 c.before.before.before.loop-i.invariant.1
-          c.before.line_value.ensures c.if-line_value-eq1.false,
-    )
+loop-again-2 c = (
+  omega arith,
+  unmasked _ _ _ _ _ c.before.before.loop-i-test.true c.before.before.before.loop-i.invariant.0 c.before.before.before.loop-i.invariant.1
+      c.before.line_value.ensures c.if-line_value-eq1.false,
+)
 
 returns : tie.Need-returns invariant-loop decreases-loop
 returns c = whole _ _ _ _ (omega arith) c.before.loop-i.invariant.1

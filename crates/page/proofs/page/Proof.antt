@@ -3,7 +3,6 @@ use native.Mathlib.Omega.{arith}
 use mathlib.Core.Path.{◌≡◌, sym, ◌∙◌}
 use mathlib.Core.Bool.{true}
 use lib.Dec.{lit≤}
-use borrow.Author.Tests.{not-true, not-false}
 use Rattle.page.specs.Files.{file}
 use Rattle.page.specs.Page.{is_shown}
 use Rattle.page.proofs.Paging.{both_short, old_refused, new_refused, never_short, done, done_within, body_there, first_too_long, second_too_long, given_old, given_new, given_both, given_numbered}

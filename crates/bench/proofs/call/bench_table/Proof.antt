@@ -1,9 +1,7 @@
 -- `bench_table` meets its contract: the refusals in their order, then the walk. Assumes nothing.
 use mathlib.Core.Path.{sym, ◌∙◌}
-use borrow.Author.Tests.{not-true, not-false}
 use borrow.Author.Rules.{rules}
 use Rattle.programme.specs.Table.{plain}
-use Rattle.bench.specs.Run.{taken}
 use Rattle.bench.proofs.Pieces.{ended_hands_on, ended_takes_nothing}
 use Rattle.bench.proofs.Standing.{accepted_stands}
 use Rattle.bench.proofs.Calling.{refused_20, refused_24, looked, nothing_taken, from_first, empty_takes, empty_hands}

@@ -1,6 +1,5 @@
 -- `run_of` meets its contract. Assumes nothing.
 use mathlib.Core.Path.{sym, ◌∙◌}
-use borrow.Author.Tests.{not-true, not-false}
 use borrow.Author.Rules.{rules}
 use Rattle.bench.proofs.Handing.{other_count, other_flags, run_read}
 use Rattle.bench.proofs.handed.run_of.Statement.{statement}

@@ -37,11 +37,10 @@ add-result-3 c = search rules
 
 returns : tie.Need-returns
 unfolding inputs_at
-returns c =
-    (
-      rw (c.before.before.before.answer_in.ensures.0, c.before.before.answer_in-2.ensures.0, c.before.answer_in-3.ensures.0, c.answer_in-4.ensures.0),
-      omega arith,
-    )
+returns c = (
+  rw (c.before.before.before.answer_in.ensures.0, c.before.before.answer_in-2.ensures.0, c.before.answer_in-3.ensures.0, c.answer_in-4.ensures.0),
+  omega arith,
+)
 
 pub inputs_at_spec : {M : Type 1} → statement M
 inputs_at_spec =

@@ -60,7 +60,7 @@ add-i c = search rules
 
 -- the sample was looked at
 turned : (c : tie.After-move_on-moved invariant-loop decreases-loop)
-    → 
+    →
     let a = c.before.before.before.before.before.before.before.before.before.before.before.before.before.before.args in
     Walking (plain a.table.now) a.samples.now (run_from a.state a.count a.earlier) a.out.now (c.before.before.before.before.before.before.before.before.before.before.loop-i.i + 1)
     c.before.before.before.put_word-n.result (standing c.move_on-moved.result (get_or a.samples.now c.before.before.before.before.before.before.before.before.before.before.loop-i.i 0)) c.before.before.before.put_word-n.new.out

@@ -17,10 +17,10 @@ returns c =
     let from = c.if-bytes-ge8.from in
     let rest : ℕ → Bool = λ n. all_within a.low a.high (drop n a.bytes.now) in
     let same : rest from ≡ rest 0 =
-        elim c.if-bytes-ge8.branch [
-          then-bytes-ge8+else-not-eight_within w ↦
-            ap rest w.from-is
-            ∙ sym (eight_then a.low a.high a.bytes.now _ (w.eight_within.ensures ∙ ap (all_within a.low a.high) w.prefix.ensures) w.if-not-eight_within.false)
-          | else-bytes-ge8 w ↦ ap rest w.from-is
-        ] in
+    elim c.if-bytes-ge8.branch [
+      | then-bytes-ge8+else-not-eight_within w ↦
+          ap rest w.from-is
+          ∙ sym (eight_then a.low a.high a.bytes.now _ (w.eight_within.ensures ∙ ap (all_within a.low a.high) w.prefix.ensures) w.if-not-eight_within.false)
+      | else-bytes-ge8 w ↦ ap rest w.from-is
+    ] in
     c.each_within.ensures ∙ ap (all_within a.low a.high) c.suffix.ensures ∙ same

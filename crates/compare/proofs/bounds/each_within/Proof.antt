@@ -5,7 +5,6 @@ use Prim.Native.Nat.{◌≤◌, ◌-◌}
 use mathlib.Core.Path.{◌≡◌, ◌∙◌, refl, sym}
 use lib.ListN.{length, drop}
 use borrow.Author.Rules.{rules}
-use borrow.Author.Tests.{not-true, not-false}
 use Rattle.compare.specs.Within.{all_within}
 use Rattle.compare.proofs.Within.{within_not, within_next, within_end}
 use Rattle.compare.proofs.bounds.each_within.Statement.{statement}

@@ -1,5 +1,4 @@
 -- `compare::is_within` meets its contract. Assumes nothing.
-use mathlib.Core.Path.{◌≡◌}
 use borrow.Author.Tests.{le-leb, lt-leb}
 use Rattle.compare.proofs.bounds.is_within.Statement.{statement}
 use Rattle.compare.proofs.bounds.is_within.Tie as tie

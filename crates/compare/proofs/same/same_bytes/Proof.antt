@@ -1,10 +1,9 @@
 -- `compare::same_bytes` meets its contract: the first eight and the last eight are all, or each is looked at.
 -- Assumes nothing.
-use mathlib.Core.Path.{sym, ap, ap₂, ◌∙◌}
+use mathlib.Core.Path.{sym, ap₂, ◌∙◌}
 use Prim.Native.Nat.{◌-◌, ◌≤◌}
 use native.Mathlib.Omega.{arith}
 use borrow.Author.Rules.{rules}
-use borrow.Author.Tests.{ltb-false}
 use lib.ListN.{length, length-drop}
 use lib.Seq.{length-take-le}
 use Rattle.compare.specs.Same.{same}

@@ -6,7 +6,7 @@ use mathlib.Core.Path.{◌≡◌, refl, sym, ap, ◌∙◌}
 use mathlib.Core.List.{List, [], ◌++◌}
 use native.Mathlib.Omega.{arith}
 use borrow.Author.Rules.{rules}
-use lib.ListN.{length, take, drop, length-append, length-drop}
+use lib.ListN.{length, take, drop, length-append}
 use Rattle.buffer.specs.Room.{write}
 use Rattle.buffer.proofs.Writing.{delivers, Pending, pending_start, pending_step, pending_end}
 use Rattle.records.specs.Sections.{record_size}

@@ -3,7 +3,6 @@
 use borrow.Author.Rules.{rules}
 use mathlib.Core.Path.{refl, sym, ap, ◌∙◌}
 use mathlib.Core.Bool.{true, false}
-use borrow.Author.Tests.{not-true, not-false}
 use Rattle.compare.specs.Same.{same}
 use Rattle.edge.proofs.ReadingBack.{read_other, read_candidate}
 use Rattle.edge.proofs.back.read_edge.Statement.{statement}

@@ -4,7 +4,6 @@ use borrow.Author.Tests.{lt-leb}
 use Rattle.compare.specs.Same.{same}
 use Rattle.range.specs.declared.Range.{Range}
 use Rattle.range.specs.declared.ReadRange.{ReadRange}
-use Rattle.range.specs.declared.ReadRange.TheVariants as ReadRange
 use Rattle.range.specs.Words.{complement, words_of}
 use Rattle.range.specs.Back.{chain_bound, decoded, read_as, read_range}
 use Rattle.range.proofs.Decode.{range_path, read_meets}

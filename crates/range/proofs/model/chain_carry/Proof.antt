@@ -1,5 +1,5 @@
 -- `range::model::chain_carry` meets its contract: the greater number has the highest line whose table answers 0. Assumes nothing.
-use Rattle.std.proofs.Common.{◌≡◌, sym, ap, arith, rules, le-ltb, lt-ltb}
+use Rattle.std.proofs.Common.{sym, ap, arith, rules, le-ltb, lt-ltb}
 use Rattle.lut.specs.Table.{one_if}
 use Rattle.range.proofs.Packed.{carried}
 use Rattle.range.proofs.model.chain_carry.Statement.{statement}

@@ -1,5 +1,5 @@
 -- `range::model::packed` meets its contract: two numbers side by side, of the low and of the high tables. Assumes nothing.
-use Rattle.std.proofs.Common.{◌≡◌, ℕ, suc, ◌+◌, ◌-◌, ◌*◌, ◌/◌, ◌%◌, ◌^◌, ◌<◌, ◌≤◌, List, length, get_or, sym, refl, ap, ◌∙◌, lt_of_lt_of_le, add-one, arith, pow_mono, rules}
+use Rattle.std.proofs.Common.{◌≡◌, ℕ, ◌+◌, ◌-◌, ◌*◌, ◌<◌, ◌≤◌, List, get_or, refl, ap, ◌∙◌, lt_of_lt_of_le, arith, pow_mono, rules}
 use lib.Bits.{bit_and, and_le_r}
 use Rattle.lines.specs.Line.{line}
 use Rattle.lut.specs.Table.{high, low}

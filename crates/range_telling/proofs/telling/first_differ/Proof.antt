@@ -69,12 +69,11 @@ loop-less : tie.Need-loop-i-smaller invariant-loop decreases-loop
 loop-less c = omega arith
 
 loop-again : tie.Need-loop-i-preserved invariant-loop decreases-loop
-loop-again c =
-    (
-      omega arith,
-      next _ _ _ _ _ c.before.before.before.loop-i-test.true c.before.before.line_value.ensures c.before.line_value-in-loop-i.ensures c.if-line_value.false
-          ∙ c.before.before.before.before.loop-i.invariant.1,
-    )
+loop-again c = (
+  omega arith,
+  next _ _ _ _ _ c.before.before.before.loop-i-test.true c.before.before.line_value.ensures c.before.line_value-in-loop-i.ensures c.if-line_value.false
+      ∙ c.before.before.before.before.loop-i.invariant.1,
+)
 
 returns-2 : tie.Need-returns invariant-loop decreases-loop
 returns-2 c = end _ _ _ c.before.loop-i.invariant.0 (omega arith) ∙ c.before.loop-i.invariant.1

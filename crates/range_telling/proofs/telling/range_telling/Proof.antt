@@ -10,7 +10,7 @@ use Rattle.lut.specs.declared.Telling.{Telling}
 use Rattle.lut.specs.declared.Telling.TheVariants.{Apart}
 use Rattle.lut.specs.declared.Input.TheVariants.{Sample}
 use Rattle.range.specs.declared.Range.{Range}
-use Rattle.range.specs.Rule.{hit_of, hit, Accepted}
+use Rattle.range.specs.Rule.{hit, Accepted}
 use Rattle.range_telling.specs.Reduce.{idle, reduce_of}
 use Rattle.range_telling.specs.Telling.{first_differ, tell_masks, tell_bounds, tell_reduced, range_telling}
 use Rattle.range_telling.proofs.Halving.{reduce_not_idle}

@@ -92,7 +92,7 @@ add_low c =
     omega (arith, known_small c.before.before.before.before.before.before.before.before.before.before.before.number_at-address.result z)
 
 -- the item lies within the stream
-within : (c : tie.After-item_size-at invariant-loop decreases-loop) → 
+within : (c : tie.After-item_size-at invariant-loop decreases-loop) →
     at c.before.before.before.before.before.before.before + c.item_size-at.result ≤ length (s c.before.before.before.before.before.before.before)
 within c =
     let l = c.before.before.before.before.before.before.before.before.before.before.before.before.before.before.loop-at in

@@ -1,10 +1,9 @@
 -- `records::record_size` meets its contract: the sizes of the table are bytes, so the sum fits. Assumes nothing.
-use mathlib.Core.Path.{◌≡◌, ap}
-use Prim.Native.Nat.{ℕ, ◌+◌}
+use mathlib.Core.Path.{ap}
+use Prim.Native.Nat.{◌+◌}
 use borrow.Author.Rules.{rules}
 use native.Mathlib.Omega.{arith}
 use Rattle.kinds.specs.declared.Row.{Row}
-use Rattle.kinds.specs.Table.{description_size}
 use Rattle.kinds.proofs.Rows.{description_byte}
 use Rattle.records.specs.Sections.{label_size}
 use Rattle.records.proofs.layout.record_size.Statement.{statement}

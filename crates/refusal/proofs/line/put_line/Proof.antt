@@ -1,10 +1,10 @@
 -- `put_line` meets its contract: the words are built first, and the whole is written where it fits. Assumes nothing.
 use lib.Dec.{lit≤}
 use native.Mathlib.Omega.{arith}
-use Prim.Native.Nat.{◌+◌, ◌≤◌}
+use Prim.Native.Nat.{◌+◌}
 use mathlib.Core.Path.{◌≡◌, sym, ◌∙◌, refl}
 use lib.ListN.{length, take}
-use borrow.Author.Tests.{leb-true, leb-false, not-true, not-false}
+use borrow.Author.Tests.{leb-true, leb-false}
 use Rattle.buffer.proofs.Writing.{front_text, front_room, front_count, put_fits, put_short}
 use Rattle.refusal.specs.Line.{refusal_text, refusal_line}
 use Rattle.refusal.proofs.Lengths.{line_length}

@@ -1,7 +1,7 @@
 -- `put_parts` meets its contract: three pairs of texts. Assumes nothing.
 use native.Mathlib.Omega.{arith}
 use Prim.Native.Nat.{◌≤◌}
-use mathlib.Core.Path.{◌∙◌, refl}
+use mathlib.Core.Path.{◌∙◌}
 use lib.ListN.{length}
 use Rattle.buffer.proofs.Writing.{wrote_then}
 use Rattle.refusal.proofs.Lengths.{line_pieces, first_fits, second_fits, third_fits}

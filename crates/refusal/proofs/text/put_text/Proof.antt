@@ -1,5 +1,5 @@
 -- `put_text` meets its contract: four writers in a row. Assumes nothing.
-use mathlib.Core.Path.{refl, ◌∙◌}
+use mathlib.Core.Path.{◌∙◌}
 use native.Mathlib.Omega.{arith}
 use Rattle.buffer.proofs.Writing.{wrote_then}
 use Rattle.refusal.specs.Words.{ascii}

@@ -5,7 +5,7 @@ use Prim.Native.Nat.{ℕ, ◌-◌}
 use mathlib.Core.Path.{◌≡◌, ap, ◌∙◌}
 use lib.ListN.{get_or}
 use Rattle.records.specs.Sections.{sections, section_size}
-use Rattle.sheet.specs.Parts.{offset_of, count_of}
+use Rattle.sheet.specs.Parts.{count_of}
 use Rattle.sheet.proofs.Laid.{Laid, laid_start, laid_fits, laid_on, laid_end}
 use Rattle.sheet.proofs.parts.lay_out.Statement.{statement}
 use Rattle.sheet.proofs.parts.lay_out.Tie as tie

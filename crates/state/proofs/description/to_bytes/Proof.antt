@@ -55,7 +55,7 @@ same_length : tie.Need-shape_of-out
 same_length c = search rules
 
 returns : tie.Need-returns
-returns c = 
+returns c =
     let s = c.before.before.before.before.before.before.before.args.s in
     delivers (ap (λ (fs : List ℕ). u32_bytes s.number ++ (s.branch ∷ fs)) (eight_flags s.flags c.before.before.before.before.before.before.before.requires)) c.before.before.put_bytes.ensures
 

@@ -2,7 +2,6 @@
 -- Assumes nothing.
 use mathlib.Core.Path.{sym, ap, ◌∙◌}
 use borrow.Author.Rules.{rules}
-use borrow.Author.Tests.{not-true, not-false}
 use Rattle.sum.specs.Words.{words_of}
 use Rattle.sum_telling.proofs.Handed.{told_meets, old_no_sum, new_no_sum, sums_apart, sums_alike}
 use Rattle.sum_telling.proofs.numbers.told_of.Statement.{statement}

@@ -32,7 +32,7 @@ loop-j-preserved c =
     let a : ℕ = c.nibble_target-a.result in
     let masked = line_masked table a in
     elim c.if-table-a-eq0.branch [
-      then-table-a-eq0 w ↦ (omega arith, w.mask-is ∙ bit_set masked j c.loop-j.mask (omega arith) c.loop-j.invariant.1 (flipped table a j true (omega arith) (eq-eqb _ 0 w.if-table-a-eq0.true)))
+      | then-table-a-eq0 w ↦ (omega arith, w.mask-is ∙ bit_set masked j c.loop-j.mask (omega arith) c.loop-j.invariant.1 (flipped table a j true (omega arith) (eq-eqb _ 0 w.if-table-a-eq0.true)))
       | else-table-a-eq0 w ↦ (omega arith, w.mask-is ∙ bit_clear masked j c.loop-j.mask (omega arith) c.loop-j.invariant.1 (flipped table a j false (omega arith) (ne_eqb _ 0 w.if-table-a-eq0.false)))
     ]
 

@@ -1,5 +1,4 @@
 -- `say_first` meets its contract: the line of the refusal. Assumes nothing.
-use mathlib.Core.Path.{refl}
 use Rattle.verbs.proofs.Giving.{told}
 use borrow.Author.Rules.{rules}
 use Rattle.verbs.proofs.line.say_first.Statement.{statement}

@@ -1,6 +1,5 @@
 -- `section` meets its contract: no number, the sheet's refusal, or the part. Assumes nothing.
 use mathlib.Core.Path.{sym, ap, ◌∙◌}
-use borrow.Author.Tests.{not-true, not-false}
 use Rattle.buffer.proofs.Writing.{delivers}
 use Rattle.sheet.specs.Parts.{section_of}
 use Rattle.verbs.proofs.Giving.{gives_refusal, gives_accepted, asked, not_asked}
