@@ -1,7 +1,6 @@
 // The examples that are run: each line says what is handed in and what comes of it [E9, E10, E12, E13].
-use std::io;
-
 use buffer::{Outcome, Verdict};
+use std::io;
 
 fn say_refused(rt: &impl Print, number: u8, place: usize) -> io::Result<()> {
     println!(rt; "{number} at {place}")

@@ -1,7 +1,6 @@
 // How many cases there are, and how many agree.
-use std::io;
-
 use crate::cases::{Case, compare_next};
+use std::io;
 
 #[derive(Clone, Copy)]
 pub(crate) struct Tally {

@@ -63,9 +63,9 @@ benched_place (Refused number place) = place
 
 -- of four numbers the sheet's if it is refused, else the samples' if they are too many, else the run's if it may not be
 -- handed in, else the room's [O8]
-abbrev pub first_judged : Verdict → (many starts : Bool) (ofSheet ofSamples ofRun ofRoom : ℕ) → ℕ
-first_judged sheet many starts ofSheet ofSamples ofRun ofRoom =
-    cond (is_accepted sheet) (cond many ofSamples (cond starts ofRoom ofRun)) ofSheet
+abbrev pub first_judged : Verdict → (many starts : Bool) (of_sheet of_samples of_run of_room : ℕ) → ℕ
+first_judged sheet many starts of_sheet of_samples of_run of_room =
+    cond (is_accepted sheet) (cond many of_samples (cond starts of_room of_run)) of_sheet
 
 -- the answer in numbers: the sheet's refusal, else 20 and the most, else 24 and 0, else 12 and the words needed, else 0
 -- and how many were written [A5, A6, O8, F12, F20, F24]

@@ -16,7 +16,7 @@ unfoldable pub longest_by : (order : List ℕ) → ℕ
 longest_by [] = 0
 longest_by (k ∷ ks) = most_of k * item_size k + longest_by ks
 
--- the most bytes that the commands of an accepted sheet have; theorem at-most, and the number in demands/proofs/Sizes
+-- the most bytes that the commands of an accepted sheet have; theorem at_most, and the number in demands/proofs/Sizes
 -- [W18]
 abbrev pub longest_stream : ℕ
 longest_stream = longest_by sending_order

@@ -168,9 +168,9 @@ notices_hold = tt
 pub sum_of : (operations : List ℕ) → List ℕ
 sum_of operations = programme_of ((0 ∷ (left ++ operations)) ∷ []) []
 
-told_at_01_aF : sum_telling_kind.telling seven never ≡ Apart (Sources 0x01AF)
+told_at_01_a_f : sum_telling_kind.telling seven never ≡ Apart (Sources 0x01AF)
 unfolding sum_telling_kind.telling
-told_at_01_aF = seven_or_never
+told_at_01_a_f = seven_or_never
 
 told_alike : sum_telling_kind.telling under under' ≡ Alike
 unfolding sum_telling_kind.telling
@@ -179,7 +179,7 @@ told_alike = alike_under_nop
 -- a sum of seven terms against one that never matches: SUMS 00 ALTR 01AF
 pub sum_altered : notice_text (sum_of seven) (sum_of never) ≡ line SUMS (48 ∷ 48 ∷ []) (ALTR ++ 32 ∷ 48 ∷ 49 ∷ 65 ∷ 70 ∷ [])
 unfolding sum_of programme_of left line SUMS ALTR render joined parse sections_from records_from kind_of description_size most_of find same notice_text notice_lines sections_lines lines_from slot_lines shared_lines name_of telling_of text.render text.render_all
-sum_altered = rw told_at_01_aF
+sum_altered = rw told_at_01_a_f
 
 -- another operation under a mid that never matches, so with other words: SUMS 00 WORD
 pub sum_word : notice_text (sum_of under) (sum_of under') ≡ line SUMS (48 ∷ 48 ∷ []) WORD

@@ -1,5 +1,5 @@
 -- The lines of a notice one by one, from a cursor on: computed, by one walk over both sheets' records.
--- Theorem from-start (proofs/Walking) has it that from the start on they are the notice's.
+-- Theorem from_start (proofs/Walking) has it that from the start on they are the notice's.
 use Rattle.std.specs.Prelude.{ℕ, zero, suc, ◌+◌, ◌-◌, ◌≡◌, Bool, true, false, cond, ◌&&◌, List, [], ◌∷◌, ◌++◌, eqb, ltb, get_or, take, drop}
 use Rattle.buffer.specs.declared.Verdict.TheVariants.{Accepted}
 use Rattle.kinds.specs.Table.{telling_of}
@@ -63,13 +63,13 @@ cursor_named c = record { section = c.section; slot = c.slot; named = true; old 
 abbrev pub cursor_at : ℕ → Cursor
 cursor_at k = record { section = k; slot = 0; named = false; old = 0; new = 0 }
 
--- computed: the lines of n sections from section k on; theorem from-start [B6, N2]
+-- computed: the lines of n sections from section k on; theorem from_start [B6, N2]
 unfoldable pub walk_sections : (n k : ℕ) (old new : List ℕ) (olds news : Judged) → List Line
 walk_sections zero k old new olds news = []
 walk_sections (suc n) k old new olds news =
     part_lines (part_by k old olds) (part_by k new news) (cursor_at k) ++ walk_sections n (k + 1) old new olds news
 
--- computed: the lines at or behind a cursor; none where a sheet is refused; theorem from-start [B6, N2, A4]
+-- computed: the lines at or behind a cursor; none where a sheet is refused; theorem from_start [B6, N2, A4]
 unfoldable pub lines_at : (old new : List ℕ) (olds news : Judged) → Cursor → List Line
 lines_at old new olds news c =
     cond (eqb olds.refusal 0 && eqb news.refusal 0)

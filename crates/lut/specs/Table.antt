@@ -15,8 +15,8 @@ abbrev pub low : (word : ℕ) → ℕ
 low word = word % 65536
 
 -- the word of two tables [W3]
-abbrev pub word_of : (highTable lowTable : ℕ) → ℕ
-word_of highTable lowTable = highTable * 65536 + lowTable
+abbrev pub word_of : (high_table low_table : ℕ) → ℕ
+word_of high_table low_table = high_table * 65536 + low_table
 
 -- a test's answer as a table gives it, 1 or 0 [W3]
 abbrev pub one_if : Bool → ℕ

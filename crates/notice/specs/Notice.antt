@@ -29,7 +29,7 @@ unfoldable pub most_text : (n k : ℕ) → ℕ
 most_text zero k = 0
 most_text (suc n) k = most_of k * slot_most k + most_text n (k + 1)
 
--- the most bytes of a notice; theorem at-most, and the number in demands/proofs/Sizes [N11]
+-- the most bytes of a notice; theorem at_most, and the number in demands/proofs/Sizes [N11]
 abbrev pub longest_notice : ℕ
 longest_notice = most_text sections 0
 
@@ -73,8 +73,8 @@ noticed_place (New number place) = place
 noticed_place (Short needed) = needed
 
 -- of three numbers the old sheet's if it is refused, else the new one's if that is, else the third [O4, A4]
-abbrev pub first_refused : (old new : Verdict) (ofOld ofNew ofNeither : ℕ) → ℕ
-first_refused old new ofOld ofNew ofNeither = cond (is_accepted old) (cond (is_accepted new) ofNeither ofNew) ofOld
+abbrev pub first_refused : (old new : Verdict) (of_old of_new of_neither : ℕ) → ℕ
+first_refused old new of_old of_new of_neither = cond (is_accepted old) (cond (is_accepted new) of_neither of_new) of_old
 
 -- the answer in numbers: the refusal's, of sheet 1 or 2, else 12 and the bytes needed, else 0 and the length written
 -- [A4, A5, A6, O4, O7, F12]

@@ -12,7 +12,7 @@ use sections::put_sections;
 mod sections;
 mod slots;
 
-// How many numbers a table has (proofs/Theorems, table-length).
+// How many numbers a table has (proofs/Theorems, table_length).
 pub const TABLE_LENGTH: usize = kinds::ALL_ENTRIES;
 
 // The table of a sheet, written at the start of `out`.

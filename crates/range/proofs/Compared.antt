@@ -64,21 +64,21 @@ all_lines : (i : ℕ) → i < 32 → line 0xFFFFFFFF i ≡ 1
 all_lines i h = eqb→eq (line 0xFFFFFFFF i) 1 (every_below_law 32 (λ j. eqb (line 0xFFFFFFFF j) 1) tt i h)
 
 -- the lines that are 1 and whose table answers 0, and those that are 0 and whose table does: the greater number has the highest
-module _ (chain : List ℕ) (sample atZero atOne : ℕ)
-    (zero_at : (i : ℕ) → i < 32 → line atZero i ≡ answer_at (table_at chain i) 0)
-    (one_at : (i : ℕ) → i < 32 → line atOne i ≡ answer_at (table_at chain i) 1) where
+module _ (chain : List ℕ) (sample at_zero at_one : ℕ)
+    (zero_at : (i : ℕ) → i < 32 → line at_zero i ≡ answer_at (table_at chain i) 0)
+    (one_at : (i : ℕ) → i < 32 → line at_one i ≡ answer_at (table_at chain i) 1) where
   abbrev ones : ℕ
-  ones = bit_xor sample (bit_and sample atOne)
+  ones = bit_xor sample (bit_and sample at_one)
 
   abbrev zeros : ℕ
-  zeros = bit_xor 0xFFFFFFFF (bit_or sample atZero)
+  zeros = bit_xor 0xFFFFFFFF (bit_or sample at_zero)
 
   step : (i carry : ℕ) → i < 32 → Says ones zeros i carry → Says ones zeros (suc i) (carry_after chain sample i carry)
   step i carry h says =
       let t = table_at chain i in
-      let ex = line_xor sample (bit_and sample atOne) i ∙ ap (bit_xor (line sample i)) (line_and sample atOne i ∙ ap (bit_and (line sample i)) (one_at i h)) in
-      let ey = line_xor 0xFFFFFFFF (bit_or sample atZero) i
-      ∙ ap₂ bit_xor (all_lines i h) (line_or sample atZero i ∙ ap (bit_or (line sample i)) (zero_at i h)) in
+      let ex = line_xor sample (bit_and sample at_one) i ∙ ap (bit_xor (line sample i)) (line_and sample at_one i ∙ ap (bit_and (line sample i)) (one_at i h)) in
+      let ey = line_xor 0xFFFFFFFF (bit_or sample at_zero) i
+      ∙ ap₂ bit_xor (all_lines i h) (line_or sample at_zero i ∙ ap (bit_or (line sample i)) (zero_at i h)) in
       let next = next_says ones zeros i carry (line sample i) (answer_at t 1) (answer_at t 0) (bit_lt _) (bit_lt _) (bit_lt _) ex ey says in
       ap (λ (a : ℕ). choose a (line sample i) carry) (sym (asked t (line sample i) (bit_lt _))) ∙ next
 

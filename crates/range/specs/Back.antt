@@ -1,6 +1,6 @@
 -- The way back from words to a range: decode, encode again, compare.
 -- A procedure, not a meaning: nothing that is marked computed has to be believed. What it answers is pinned by
--- `ReadMeans` below: read-means in proofs/Decode, words-read-back and accepted-iff-written in proofs/Theorems
+-- `ReadMeans` below: read_means in proofs/Decode, words_read_back and accepted_iff_written in proofs/Theorems
 -- [C5, D2.5, D2.6].
 use Rattle.std.specs.Prelude.{◌≡◌, ℕ, ◌+◌, ◌-◌, ◌^◌, cond, ◌&&◌, List, length, take, drop, ◌==◌, ◌≢◌, count_ones, nat_le}
 use Rattle.lines.specs.Line.{from_lines}

@@ -57,9 +57,9 @@ turn_sample_law r i red hi hl e =
     let a = red.accepted in
     let hj : j < ones mask = rw (ones_in_law 32 mask red.accepted.fits) at (rank_lt 32 i mask hi hl) in
     let t = turn_value_law r.lower r.upper (ones mask) j a.positive a.ordered a.within hj (busy_parts r red.busy) in
-    let at-v = back mask v red.accepted.fits t.0 in
-    let at-flip = flip_masked 32 i (scattered 32 v mask) mask hi hl ∙ ap (flip_line j) at-v in
-    t.1 (sym (hit_inside r (scattered 32 v mask) v at-v) ∙ e ∙ hit_inside r (flip_line i (scattered 32 v mask)) (flip_line j v) at-flip)
+    let at_v = back mask v red.accepted.fits t.0 in
+    let at-flip = flip_masked 32 i (scattered 32 v mask) mask hi hl ∙ ap (flip_line j) at_v in
+    t.1 (sym (hit_inside r (scattered 32 v mask) v at_v) ∙ e ∙ hit_inside r (flip_line i (scattered 32 v mask)) (flip_line j v) at-flip)
 
 pub turn_sample_lt : (r : Range) (i : ℕ) → turn_sample r i < 2 ^ 32
 unfolding turn_sample
@@ -158,10 +158,10 @@ module _ (a b : Range) (ra : Reduced a) (rb : Reduced b) (masks : a.mask ≡ b.m
       → TellsApart (hit a) (hit b) (Sample (scattered 32 v a.mask))
   at_value v hv ne =
       let s = scattered 32 v a.mask in
-      let at-v = back a.mask v ra.accepted.fits hv in
+      let at_v = back a.mask v ra.accepted.fits hv in
       record {
         fits = scatter_lt 32 v a.mask;
-        tells = λ p. ne (sym (hit_inside a s v at-v) ∙ p ∙ hit_inside b s v (ap (gathered 32 s) (sym masks) ∙ at-v));
+        tells = λ p. ne (sym (hit_inside a s v at_v) ∙ p ∙ hit_inside b s v (ap (gathered 32 s) (sym masks) ∙ at_v));
       }
 
 -- what a telling says of two reduced ranges

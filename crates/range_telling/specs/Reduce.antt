@@ -1,6 +1,6 @@
 -- The range without the lines that cannot matter, computed line by line from the lowest.
 -- A procedure, not a meaning: nothing that is marked computed has to be believed. What it answers is pinned by
--- `Reduces` below: reduces and dropped-exactly in proofs/Theorems [D3.4].
+-- `Reduces` below: reduces and dropped_exactly in proofs/Theorems [D3.4].
 use Rattle.std.specs.Prelude.{Bool, cond, ◌&&◌, ℕ, zero, suc, ◌/◌, ◌%◌, eqb}
 use Rattle.lines.specs.Gather.{drop_lowest}
 use Rattle.lut.specs.Telling.{HitAlike}

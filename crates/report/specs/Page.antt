@@ -91,13 +91,13 @@ labels_room = 27 + 2 * label_room
 
 -- room for any line of the notice, what it says and its labels [V7]
 abbrev pub entry_room : ℕ
-entry_room = 31 + 242 + labels_room
+entry_room = 30 + 242 + labels_room
 
--- room for the line NAME of a slot and for its other line, each with what it says and its labels [V7]
+-- room for the lines NAME of a slot and for its other line, each with what it says and its labels [V7]
 abbrev pub longest_slot : ℕ
 longest_slot = (13 + 30 + (43 + 2 * label_size)) + (31 + 242 + (43 + 2 * label_size))
 
--- no body is longer; theorem at-most [V7]
+-- no body is longer; theorem at_most [V7]
 abbrev pub longest_body : ℕ
 longest_body = 150 + slots_of kinds * longest_slot + 754
 

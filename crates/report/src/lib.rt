@@ -20,7 +20,7 @@ const LABELS: usize = 27 + 2 * (8 + records::LABEL_SIZE);
 
 const ENTRY: usize = 31 + 242 + LABELS;
 
-// Room for every body (proofs/Lengths, at-most): head, of each slot a line NAME and another one, ending.
+// Room for every body (proofs/Lengths, at_most): head, of each slot a line NAME and another one, ending.
 pub const LONGEST: usize = 150 + kinds::ALL_RECORDS * (13 + 30 + LABELS + ENTRY) + 754;
 
 // How many sorts of lines there are: NAME, ALTR, WORD, NEW, GONE.

@@ -57,7 +57,7 @@ unfoldable pub longest_from : (n k : ℕ) → ℕ
 longest_from zero k = 0
 longest_from (suc n) k = section_size k (most_of k) + longest_from n (k + 1)
 
--- the most bytes that an accepted sheet has; theorem at-most, and the number in demands/proofs/Sizes [S8]
+-- the most bytes that an accepted sheet has; theorem at_most, and the number in demands/proofs/Sizes [S8]
 abbrev pub longest_sheet : ℕ
 longest_sheet = longest_from sections 0
 

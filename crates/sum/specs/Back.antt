@@ -1,6 +1,6 @@
 -- The way back: the operation codes that write given chain words, if some do.
 -- A procedure, not a meaning: nothing that is marked computed has to be believed. What it answers is pinned by
--- `ReadMeans` below: read-means in proofs/ReadingBack, words-read-back and accepted-iff-written in proofs/Theorems
+-- `ReadMeans` below: read_means in proofs/ReadingBack, words_read_back and accepted_iff_written in proofs/Theorems
 -- [C5, D2.5, D2.6].
 use Rattle.std.specs.Prelude.{ℕ, ◌≡◌, Bool, true, false, cond, ◌&&◌, List, [], ◌∷◌, eqb, length, get_or, replicate}
 use Rattle.lut.specs.Table.{high, low}

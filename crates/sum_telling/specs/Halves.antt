@@ -2,7 +2,7 @@
 -- is seen by both. So it is enough to know, of each half, the least of its 256 patterns for each of the four classes
 -- that its old and its new mid can answer, and to ask both final tables for the sixteen pairs of classes.
 -- A procedure, not a meaning: nothing here has to be believed. What it answers is pinned by `least_pattern`:
--- found-is-least in proofs/Found [B6].
+-- found_is_least in proofs/Found [B6].
 use Rattle.std.specs.Prelude.{ℕ, ◌+◌, ◌*◌, ◌/◌, ◌%◌, min, cond, List, [], ◌∷◌, eqb, get_or}
 use Rattle.lut.specs.Table.{answer_at, high, low}
 use Rattle.sum.specs.Model.{inputs_of}

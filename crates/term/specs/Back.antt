@@ -1,7 +1,7 @@
 -- Chain words read back as a pattern: each table is decoded, and the pattern is accepted where it writes the very words
 -- that were read.
 -- A procedure, not a meaning: nothing that is marked computed has to be believed. What it answers is pinned by
--- `ReadMeans` below: read-means in proofs/ReadingBack, words-read-back and accepted-iff-written in proofs/Theorems
+-- `ReadMeans` below: read_means in proofs/ReadingBack, words_read_back and accepted_iff_written in proofs/Theorems
 -- [C5, D2.5, D2.6].
 use Rattle.std.specs.Prelude.{Bool, cond, List, [], ◌∷◌, ◌≡◌, ℕ, ◌+◌, ◌*◌, ◌%◌, ◌^◌, ◌<◌, eqb, length}
 use Rattle.std.specs.Int.Bits.{bit_and, bit_xor}

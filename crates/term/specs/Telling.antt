@@ -1,6 +1,6 @@
 -- The least sample that tells two patterns apart, as it is computed.
 -- A procedure, not a meaning: nothing here has to be believed. What it answers is pinned by lut's `Says` and `Least`:
--- telling-says and telling-least in proofs/Theorems [D3.6, D3.7].
+-- telling_says and telling_least in proofs/Theorems [D3.6, D3.7].
 use Rattle.std.specs.Prelude.{cond, ℕ, ◌+◌, ◌^◌, min, eqb}
 use Rattle.std.specs.Int.Bits.{bit_and, bit_xor}
 use Rattle.std.specs.Int.Count.{count_trailing_zeros}
