@@ -5,7 +5,7 @@
 
 mod commands;
 mod sheet;
-mod state;
+mod state_text;
 
 pub use commands::put_commands;
 pub use sheet::put_sheet;

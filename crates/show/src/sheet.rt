@@ -1,5 +1,5 @@
 // A sheet as text: the offset, then the count of a section, or a record's slot, label and description.
-use crate::state::put_state;
+use crate::state_text::put_state;
 use faults::Cursor;
 use peek::field;
 use records::{description, label, record_size, slot};

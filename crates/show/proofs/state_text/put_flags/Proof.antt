@@ -1,7 +1,7 @@
 -- `show::put_flags` is safe and ends: i rises to the number of flags. Assumes nothing.
 use borrow.Author.Rules.{rules}
-use Rattle.show.proofs.state.put_flags.Statement.{statement}
-use Rattle.show.proofs.state.put_flags.Tie as tie
+use Rattle.show.proofs.state_text.put_flags.Statement.{statement}
+use Rattle.show.proofs.state_text.put_flags.Tie as tie
 use native.Mathlib.Omega.{arith}
 use mathlib.Core.Path.{◌≡◌, refl}
 use lib.ListN.{length}
