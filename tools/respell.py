@@ -29,7 +29,7 @@ def snake(name):
 # Lemmas whose name would fall together with a definition's, or with a word of the library, that is said in the same place
 LAWS = """body-text chain-hit chain-words change-most count-of edge-at edge-entry every-below every-slot every-within fields-from
 finding-back first-half first-mid first-refused from-lines in-numbers inputs-at item-size last-mid line-back line-hit line-masked lines-from
-longest-notice longest-sheet lower-sources lower-value lowest-line no-refusal ones-in on-sources packed-four range-entry read-range record-at
+longest-notice longest-sheet lower-sources lower-value lowest-line no-refusal ones-in packed-four range-entry read-range record-at
 record-by records-of refuse-fault section-at section-lines sections-from sent-from sent-once sheet-with six-at slot-back slot-from slot-most
 sum-asked sum-means table-at table-from table-length tell-line tell-masks term-at turn-lower turn-sample turn-upper turn-value upper-sources
 upper-value walk-lines word-at word-hit words-of words-read""".split()
