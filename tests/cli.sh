@@ -372,9 +372,9 @@ helps() {
     expect 'the version in the man page' grep -q "voltamar $version" "$root/program/voltamar.1"
 }
 
-# the words of the refusals stand in three languages; a number between that no refusal has is noRefusal in the first
+# the words of the refusals stand in three languages; a number between that no refusal has is no_refusal in the first
 meanings() {
-    sed -n 's/^ *∷ \("\(.*\)"\|noRefusal\)$/\2/p' "$root/crates/refusal/specs/Words.antt" | awk '$0 != "" { print NR, $0 }' >of_text
+    sed -n 's/^ *∷ \("\(.*\)"\|no_refusal\)$/\2/p' "$root/crates/refusal/specs/Words.antt" | awk '$0 != "" { print NR, $0 }' >of_text
     cat >meanings.c <<EOF
 #include <stdio.h>
 #include "voltamar.h"
