@@ -4,7 +4,7 @@
 Run once at the top, after the toolchain's own scripts: python3 tools/respell.py [--dry]
 It turns dropLowest and drop-lowest into drop_lowest in crates/: the .antt files, the clauses and ghost lines of the .rt files, and in
 comments what stands in backquotes. Types, modules, constants in capitals and what is imported from elsewhere keep their names.
-It stops where two names would fall together."""
+It prints where two names may fall together in a file."""
 
 import collections
 import os
@@ -12,9 +12,7 @@ import re
 import sys
 
 WORD = re.compile(r"[^\s(){}\[\],.;:\"`⌜⌝⟨⟩]+")
-HEAD = re.compile(r"\s*(?:(?:abbrev|unfoldable|pub|record|data|module)\s+)*([^\s(){}\[\],.;:\"`]+)\s*(?=:|\s\(|\s\{|$)")
 DECLARED = re.compile(r"^\s*(?:(?:abbrev|unfoldable|pub)\s+)*([^\s(){}\[\],.;:\"`]+)\s+:(?:\s|$)")
-RECORD = re.compile(r"^\s*(?:pub\s+)?(?:record|data)\s+([^\s(){}\[\],.;:\"`]+)")
 USE = re.compile(r"^\s*(?:ghost |unfoldable |pub )*use\s+([^\s{;]+?)(?:\.\{([^}]*)\})?(?:\s+as\s+(\S+?))?;?\s*$")
 
 
