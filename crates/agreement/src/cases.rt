@@ -1,7 +1,5 @@
 // One case of the file: a sheet after its length, and the second program's stream after its length. Lengths have two
 // bytes, the least first.
-ghost use Rattle.std.specs.Prelude.{◌<◌};
-
 use buffer::Outcome;
 
 // What came of a case.
@@ -15,66 +13,57 @@ pub(crate) enum Case {
     Cut,
 }
 
-// What stands where a length is due.
-#[derive(Clone, Copy)]
-enum Length {
-    Is(usize),
-    Missing,
-}
-
 // The length that no sheet has, after the last case.
 const END_MARK: usize = 0xFFFF;
 
 // The most bytes of a sheet or of a stream in the file.
 const MOST: usize = 4096;
 
-// A byte as a wider number, with its bound.
-fn wide(x: u8) -> usize
-    ensures { result < 256 }
-{
-    x as usize
-}
+// What is left of the file.
+#[derive(Drop)]
+pub(crate) struct Rest<'a>(pub &'a [u8]);
 
-// The next n bytes of the file, which are then behind; nothing where fewer are left.
-fn next_bytes<'a>(file: &'a [u8], at: &mut usize, n: usize) -> Option<&'a [u8]> {
-    let from = *at;
-    if from <= file.len() {
-        if n <= file.len() - from {
-            *at = from + n;
-            return Some(&file[from..from + n]);
+impl<'a> Rest<'a> {
+    // The next n bytes, which are then behind; nothing where fewer are left.
+    fn bytes(&mut self, n: usize) -> Option<&'a [u8]> {
+        let (bytes, rest) = self.0.split_at_checked(n)?;
+        self.0 = rest;
+        Some(bytes)
+    }
+
+    fn length(&mut self) -> Option<usize> {
+        match self.bytes(2)? {
+            [low, high] => Some(usize::from(u16::from_le_bytes([*low, *high]))),
+            _ => None,
         }
     }
-    None
-}
 
-fn read_length(file: &[u8], at: &mut usize) -> Length {
-    match next_bytes(file, at, 2) {
-        Some(two) => {
-            if two.len() == 2 {
-                Length::Is(wide(two[0]) + wide(two[1]) * 256)
-            } else {
-                Length::Missing
-            }
+    // A sheet or a stream of n bytes, which are at most MOST.
+    fn part(&mut self, n: usize) -> Option<&'a [u8]> {
+        if n <= MOST { self.bytes(n) } else { None }
+    }
+
+    // Whether the sheet of n bytes and the stream behind it agree; nothing where the file ends inside them.
+    fn agreement(&mut self, n: usize) -> Option<bool> {
+        let sheet = self.part(n)?;
+        let m = self.length()?;
+        let stream = self.part(m)?;
+        Some(agrees(sheet, stream))
+    }
+
+    // Compares the next case, which is then behind.
+    pub(crate) fn compare_next(&mut self) -> Case {
+        let Some(n) = self.length() else {
+            return Case::Cut;
+        };
+        if n == END_MARK {
+            return Case::End;
         }
-        None => Length::Missing,
-    }
-}
-
-// The bytes of a sheet or of a stream, of which there are at most MOST.
-fn read_bytes<'a>(file: &'a [u8], at: &mut usize, n: usize) -> Option<&'a [u8]> {
-    if n <= MOST {
-        next_bytes(file, at, n)
-    } else {
-        None
-    }
-}
-
-// Whether the first n bytes of a buffer are these.
-fn begins(buf: &[u8], n: usize, with: &[u8]) -> bool {
-    if n <= buf.len() {
-        &buf[0..n] == with
-    } else {
-        false
+        match self.agreement(n) {
+            Some(true) => Case::Agrees,
+            Some(false) => Case::Differs,
+            None => Case::Cut,
+        }
     }
 }
 
@@ -82,31 +71,7 @@ fn begins(buf: &[u8], n: usize, with: &[u8]) -> bool {
 fn agrees(sheet: &[u8], stream: &[u8]) -> bool {
     let mut out = [0u8; compiler::LONGEST];
     match compiler::compile(sheet, &mut out) {
-        Outcome::Done(length) => begins(&out, length, stream),
+        Outcome::Done(length) => out.get(..length).is_some_and(|written| written == stream),
         Outcome::Refused(_, _) => false,
-    }
-}
-
-// Compares the next case of the file, from an offset on, which is then behind it.
-pub(crate) fn compare_next(file: &[u8], at: &mut usize) -> Case {
-    let Length::Is(n) = read_length(file, at) else {
-        return Case::Cut;
-    };
-    if n == END_MARK {
-        return Case::End;
-    }
-    let Some(sheet) = read_bytes(file, at, n) else {
-        return Case::Cut;
-    };
-    let Length::Is(m) = read_length(file, at) else {
-        return Case::Cut;
-    };
-    let Some(stream) = read_bytes(file, at, m) else {
-        return Case::Cut;
-    };
-    if agrees(sheet, stream) {
-        Case::Agrees
-    } else {
-        Case::Differs
     }
 }

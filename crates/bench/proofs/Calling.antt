@@ -1,12 +1,16 @@
 -- The call's answers, refusal by refusal, and what it leaves in the lent words. Holds of any machine. Assumes nothing.
-use Prim.Native.Nat.{ℕ, ◌-◌, ◌≤◌, ◌<◌}
+use Prim.Native.Nat.{ℕ, ◌≤◌, ◌<◌}
 use mathlib.Core.Path.{◌≡◌, refl, sym, ap, ap₂, ◌∙◌, subst}
 use mathlib.Core.Bool.{Bool, true, false, cond, not, ◌&&◌, true≢false}
 use mathlib.Core.List.{List, [], ◌∷◌}
 use native.Mathlib.Omega.{arith}
+use Rattle.std.specs.List.{slice_get}
+use Rattle.std.specs.Option.{unwrap_or}
+use Rattle.std.proofs.Common.{Option, None, Some}
+use Rattle.std.proofs.lemmas.Option.{none-some, same_Some}
 use borrow.Author.Tests.{lt-ltb, le-ltb}
 use lib.Dec.{ltb}
-use lib.ListN.{length, get_or, take, drop}
+use lib.ListN.{length, take, drop}
 use lib.Seq.{take-append_seam}
 use Rattle.buffer.specs.Room.{bytes, fill, Delivered}
 use Rattle.buffer.specs.declared.Outcome.{Outcome}
@@ -18,7 +22,7 @@ use Rattle.bench.specs.declared.Benched.{Benched}
 use Rattle.bench.specs.declared.Benched.TheVariants.{Done, Refused}
 use Rattle.bench.specs.Run.{earlier_of, step, takes, next, captures, handed_on, taken, start_accepted}
 use Rattle.bench.specs.Call.{most_samples, delivered, answered, left_by}
-use Rattle.bench.specs.Walk.{run_from, ran_to, Walks, Delivers, Answers}
+use Rattle.bench.specs.Walk.{run_from, Walks, Delivers, Answers}
 use Rattle.bench.proofs.Pieces.{ended_hands_on, ended_takes_nothing, taken_length}
 
 -- the refusals of the samples and of the run, in their order, before what is delivered
@@ -47,16 +51,10 @@ module _ (m : Machine) (xs : List ℕ) (r : Run) (out : List ℕ) where
       let l : length out < length (taken m r xs) = rw (← e) h in
       record { answer = simp (lt-ltb (length out) (length (taken m r xs)) l, e); left = refl }
 
-  pub delivers : (b : Benched) (t : ℕ) (r' : Run) (out' : List ℕ) → length (taken m r xs) ≤ length out → b ≡ Done t r'
-      → t ≡ length (taken m r xs) → r' ≡ handed_on m r xs → out' ≡ fill (taken m r xs) out → Delivers m xs r out b out'
+  delivers : (n : ℕ) (r' : Run) (out' : List ℕ) → length (taken m r xs) ≤ length out → n ≡ length (taken m r xs) → r' ≡ handed_on m r xs
+      → out' ≡ fill (taken m r xs) out → Delivers m xs r out (Done n r') out'
   unfolding delivered
-  delivers b t r' out' l eb et er eo =
-      record {
-        answer =
-            eb ∙ ap₂ Done et er
-            ∙ sym (ap (λ (c : Bool). in_room c (taken m r xs) (handed_on m r xs)) (le-ltb (length out) (length (taken m r xs)) l));
-        left = eo ∙ ap (λ (c : Benched). left_by c (taken m r xs) out) (sym eb);
-      }
+  delivers n r' out' l et er eo = record { answer = simp (le-ltb _ _ l) (ap₂ Done et er); left = eo }
 
   pub refused_20 : most_samples < length xs → Answers m xs r out (Refused 20 most_samples) out
   unfolding answered
@@ -71,51 +69,41 @@ module _ (m : Machine) (xs : List ℕ) (r : Run) (out : List ℕ) where
   unfolding answered
   looked h e b out' d = record { answer = d.answer ∙ simp (le-ltb _ _ h, e); left = d.left }
 
-  -- no sample is looked at
-  pub nothing_taken : taken m r xs ≡ [] → handed_on m r xs ≡ r → Delivers m xs r out (Done 0 r) out
+  -- no sample is looked at, of a run that has ended
+  nothing_taken : taken m r xs ≡ [] → handed_on m r xs ≡ r → Delivers m xs r out (Done 0 r) out
   nothing_taken et eh =
       record { answer = sym (none_delivered m xs r (length out) et eh); left = ap (λ (l : List ℕ). fill l out) (sym et) }
 
+  pub ended_looked : r.ended ≡ true → Delivers m xs r out (Done 0 r) out
+  ended_looked e = nothing_taken (ended_takes_nothing m r xs e) (ended_hands_on m r xs e)
+
+-- nor where there is none
+pub none_looked : (m : Machine) (xs : List ℕ) (r : Run) (out : List ℕ) → None ≡ slice_get xs 0 → Delivers m xs r out (Done 0 r) out
+unfolding taken handed_on
+none_looked m [] r out e = nothing_taken m [] r out refl refl
+none_looked m (x ∷ xs) r out e = absurd (none-some x e)
+
 -- the walk over all samples of a run that looks at one
-module _ (m : Machine) (xs : List ℕ) (state count earlier : ℕ) (room : List ℕ) (w : Walked) (room' : List ℕ)
-    (walks : Walks m xs state count earlier room w room') where
+module _ (m : Machine) (xs : List ℕ) (r : Run) (room : List ℕ) (w : Walked) (room' : List ℕ) (walks : Walks m xs r room w room') where
   pub walk_few : w.taken ≤ length xs
-  walk_few = rw walks.counted (taken_length m (run_from state count earlier) xs)
+  walk_few = rw walks.counted (taken_length m r xs)
 
   -- right into the lent words
-  pub walked_into : (b : Benched) → length xs ≤ length room → b ≡ Done w.taken (ran_to w)
-      → Delivers m xs (run_from state count earlier) room b room'
-  walked_into b h e =
-      let r = run_from state count earlier in
+  pub walked_into : length xs ≤ length room → Delivers m xs r room (Done w.taken w.run) room'
+  walked_into h =
       let t = taken_length m r xs in
-      delivers m xs r room b w.taken (ran_to w) room' (omega arith) e walks.counted walks.handed
-      (walks.left ∙ stored (taken m r xs) room (omega arith))
+      delivers m xs r room w.taken w.run room' (omega arith) walks.counted walks.handed (walks.left ∙ stored (taken m r xs) room (omega arith))
 
-  -- into other room, of which what was taken is copied: `&room[0..taken]`
-  pub walked_apart : (out out' : List ℕ) (o : Outcome) (b : Benched) → length xs ≤ length room → w.taken ≤ length out
-      → Delivered (bytes (take (w.taken - 0) room')) out o out' → b ≡ Done w.taken (ran_to w)
-      → Delivers m xs (run_from state count earlier) out b out'
-  walked_apart out out' o b h f d e =
-      let r = run_from state count earlier in
+  -- into other room, of which what was taken is copied
+  pub walked_apart : (out out' : List ℕ) (o : Outcome) → length xs ≤ length room → w.taken ≤ length out
+      → Delivered (bytes (take w.taken room')) out o out' → Delivers m xs r out (Done w.taken w.run) out'
+  walked_apart out out' o h f d =
       let t = taken_length m r xs in
       let n = walks.counted in
-      let all : w.taken - 0 ≡ length (taken m r xs) = omega arith in
-      let src : take (w.taken - 0) room' ≡ taken m r xs =
-      ap₂ take all (walks.left ∙ stored (taken m r xs) room (omega arith)) ∙ take-append_seam (taken m r xs) (drop (length (taken m r xs)) room) in
-      delivers m xs r out b w.taken (ran_to w) out' (omega arith) e n walks.handed
+      let src : take w.taken room' ≡ taken m r xs =
+      ap₂ take n (walks.left ∙ stored (taken m r xs) room (omega arith)) ∙ take-append_seam (taken m r xs) (drop (length (taken m r xs)) room) in
+      delivers m xs r out w.taken w.run out' (omega arith) n walks.handed
       (filled (taken m r xs) out o out' (omega arith) (subst (λ (l : List ℕ). Delivered (bytes l) out o out') src d))
-
--- no samples
-module _ (m : Machine) where
-  pub empty_takes : (xs : List ℕ) (r : Run) → length xs ≡ 0 → taken m r xs ≡ []
-  unfolding taken
-  empty_takes [] r e = refl
-  empty_takes (x ∷ xs) r e = absurd (omega arith)
-
-  pub empty_hands : (xs : List ℕ) (r : Run) → length xs ≡ 0 → handed_on m r xs ≡ r
-  unfolding handed_on
-  empty_hands [] r e = refl
-  empty_hands (x ∷ xs) r e = absurd (omega arith)
 
 -- a run that has not ended does with the first sample as it does with the earlier word of that sample
 module _ (m : Machine) (r : Run) (x : ℕ) (e : r.ended ≡ false) where
@@ -142,21 +130,25 @@ module _ (m : Machine) (r : Run) (x : ℕ) (e : r.ended ≡ false) where
   unfolding taken
   taken_first ys = ap₂ (λ (b : Bool) (q : Run). cond b (x ∷ taken m q ys) (taken m q ys)) captures_first next_first
 
-pub from_first : (m : Machine) (xs : List ℕ) (r : Run) (out : List ℕ) (earlier : ℕ) (b : Benched) (out' : List ℕ)
-    → r.ended ≡ false → (length xs ≡ 0 → ⊥) → earlier ≡ earlier_of r.earlier (get_or xs 0 0)
+-- so the run under way that is made of it does the same
+pub from_first : (m : Machine) (xs : List ℕ) (r : Run) (out : List ℕ) (x earlier : ℕ) (b : Benched) (out' : List ℕ)
+    → r.ended ≡ false → Some x ≡ slice_get xs 0 → earlier ≡ unwrap_or r.earlier x
     → Delivers m xs (run_from r.state r.count earlier) out b out' → Delivers m xs r out b out'
 unfolding first delivered
-from_first m [] r out earlier b out' e n ee d = absurd (n refl)
-from_first m (x ∷ xs) r out earlier b out' e n ee d =
+from_first m [] r out x earlier b out' e h ee d = absurd (none-some x (sym h))
+from_first m (y ∷ ys) r out x earlier b out' e h ee d =
     let f = run_from r.state r.count in
-    let t : taken m (f earlier) (x ∷ xs) ≡ taken m r (x ∷ xs) =
-    ap (λ (w : ℕ). taken m (f w) (x ∷ xs)) ee ∙ sym (taken_first m r x e xs) in
-    let h : handed_on m (f earlier) (x ∷ xs) ≡ handed_on m r (x ∷ xs) =
-    ap (λ (w : ℕ). handed_on m (f w) (x ∷ xs)) ee ∙ sym (handed_first m r x e xs) in
+    let w : earlier ≡ earlier_of r.earlier y = ee ∙ ap (unwrap_or r.earlier) (same_Some x y h) ∙ or_itself r.earlier y in
+    let t : taken m (f earlier) (y ∷ ys) ≡ taken m r (y ∷ ys) = ap (λ (w : ℕ). taken m (f w) (y ∷ ys)) w ∙ sym (taken_first m r y e ys) in
+    let k : handed_on m (f earlier) (y ∷ ys) ≡ handed_on m r (y ∷ ys) = ap (λ (w : ℕ). handed_on m (f w) (y ∷ ys)) w ∙ sym (handed_first m r y e ys) in
     record {
-      answer = d.answer ∙ ap₂ (λ (l : List ℕ) (q : Run). in_room (ltb (length out) (length l)) l q) t h;
+      answer = d.answer ∙ ap₂ (λ (l : List ℕ) (q : Run). in_room (ltb (length out) (length l)) l q) t k;
       left = d.left ∙ ap (λ (l : List ℕ). left_by b l out) t;
     }
+  where
+    or_itself : (o : Option ℕ) (x : ℕ) → unwrap_or o x ≡ earlier_of o x
+    or_itself None x = refl
+    or_itself (Some w) x = refl
 
 -- given room, the call is done
 pub given_room : (m : Machine) (xs : List ℕ) (r : Run) (room : ℕ) → length xs ≤ most_samples → start_accepted m r ≡ true

@@ -4,11 +4,11 @@ use Prim.Native.Nat.{ℕ, ◌+◌, ◌*◌, ◌^◌}
 use mathlib.Core.Path.{◌≡◌, refl}
 use mathlib.Core.Bool.{true, false}
 use mathlib.Core.List.{List, [], ◌∷◌, map}
+use Rattle.std.proofs.Common.{None, Some}
 use lib.Dec.{eqb}
 use lib.ListN.{get_or, drop, replicate}
 use Rattle.lut.specs.Table.{one_if}
 use Rattle.programme.specs.Machine.{Machine}
-use Rattle.bench.specs.declared.Earlier.TheVariants.{Nothing, Word}
 use Rattle.bench.specs.declared.Run.{Run}
 use Rattle.bench.specs.declared.Benched.TheVariants.{Done, Refused}
 use Rattle.lines.specs.Line.{line}
@@ -134,7 +134,7 @@ first_is_its_own = refl
 
 -- a run that may not be handed in
 pub bad : Run
-bad = record { state = 16; count = 0; earlier = Nothing; ended = false }
+bad = record { state = 16; count = 0; earlier = None; ended = false }
 
 -- 20 before 24 before 12, of too many samples in a run that cannot be, without room; and room for what is taken [O8]
 pub refusals_in_turn : answered by_hand (replicate 4097 (capture 0)) bad 0
@@ -148,7 +148,7 @@ refusals_in_turn = refl
 
 -- a count is below the number of its state, where 0 counts as 1; an ended run is judged too [F24]
 pub starts : map (λ (r : Run). one_if (start_accepted by_hand r))
-    (run_from 0 0 0 ∷ run_from 0 1 0 ∷ run_from 2 2 0 ∷ run_from 2 3 0 ∷ record { state = 3; count = 2; earlier = Nothing; ended = true } ∷ run_from 15 0 0 ∷ bad ∷ [])
+    (run_from 0 0 0 ∷ run_from 0 1 0 ∷ run_from 2 2 0 ∷ run_from 2 3 0 ∷ record { state = 3; count = 2; earlier = None; ended = true } ∷ run_from 15 0 0 ∷ bad ∷ [])
     ≡ 1 ∷ 0 ∷ 1 ∷ 0 ∷ 0 ∷ 1 ∷ 0 ∷ []
 unfolding states by_hand bad number_of start_accepted
 starts = refl
@@ -156,10 +156,10 @@ starts = refl
 -- ---- a run in words
 
 -- state, count, whether there is an earlier word, that word, whether it has ended [A13]
-pub words_in_order : (words_of (record { state = 3; count = 7; earlier = Word 9; ended = true }) ≡ 3 ∷ 7 ∷ 1 ∷ 9 ∷ 1 ∷ [])
-    × (words_of (record { state = 3; count = 7; earlier = Nothing; ended = false }) ≡ 3 ∷ 7 ∷ 0 ∷ 0 ∷ 0 ∷ [])
+pub words_in_order : (words_of (record { state = 3; count = 7; earlier = Some 9; ended = true }) ≡ 3 ∷ 7 ∷ 1 ∷ 9 ∷ 1 ∷ [])
+    × (words_of (record { state = 3; count = 7; earlier = None; ended = false }) ≡ 3 ∷ 7 ∷ 0 ∷ 0 ∷ 0 ∷ [])
 words_in_order = (refl, refl)
 
-pub words_are_read : run_of (3 ∷ 7 ∷ 1 ∷ 9 ∷ 1 ∷ []) ≡ record { state = 3; count = 7; earlier = Word 9; ended = true }
+pub words_are_read : run_of (3 ∷ 7 ∷ 1 ∷ 9 ∷ 1 ∷ []) ≡ record { state = 3; count = 7; earlier = Some 9; ended = true }
 unfolding is_run run_of
 words_are_read = refl

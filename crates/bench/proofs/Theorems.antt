@@ -4,6 +4,7 @@ use mathlib.Core.Path.{◌≡◌, refl, sym, ap, ap₂, ◌∙◌}
 use mathlib.Core.Bool.{Bool, true, false, cond}
 use mathlib.Core.List.{List, ◌++◌, append-nil}
 use native.Mathlib.Omega.{arith}
+use Rattle.std.proofs.Common.{Option, None, Some}
 use borrow.Author.Tests.{le-ltb}
 use lib.Dec.{eqb, ltb, lit<}
 use lib.ListN.{length, length-append, get_or, take}
@@ -13,8 +14,6 @@ use Rattle.state.specs.Fields as state
 use Rattle.state.specs.Words.{word_of}
 use Rattle.state.proofs.Theorems as state_theorems
 use Rattle.sheet.specs.Reading.{verdict}
-use Rattle.bench.specs.declared.Earlier.{Earlier}
-use Rattle.bench.specs.declared.Earlier.TheVariants.{Nothing, Word}
 use Rattle.bench.specs.declared.Run.{Run}
 use Rattle.bench.specs.declared.Benched.{Benched}
 use Rattle.bench.specs.declared.Benched.TheVariants.{Done, Refused}
@@ -185,14 +184,14 @@ pub words_of_a_run : (r : Run) → run_of (words_of r) ≡ r
 unfolding run_of is_run
 words_of_a_run r = go r.earlier r.ended
   where
-    with_these : Earlier → Bool → Run
+    with_these : Option ℕ → Bool → Run
     with_these e b = record { state = r.state; count = r.count; earlier = e; ended = b }
 
-    go : (e : Earlier) (b : Bool) → run_of (words_of (with_these e b)) ≡ with_these e b
-    go Nothing true = refl
-    go Nothing false = refl
-    go (Word w) true = refl
-    go (Word w) false = refl
+    go : (e : Option ℕ) (b : Bool) → run_of (words_of (with_these e b)) ≡ with_these e b
+    go None true = refl
+    go None false = refl
+    go (Some w) true = refl
+    go (Some w) false = refl
 
 -- words that are no run are refused with 24, in its turn [A13, F24, O8]
 pub no_run_refused : (s xs ws : List ℕ) (room : ℕ) → verdict s ≡ Accepted → length xs ≤ most_samples → is_run ws ≡ false

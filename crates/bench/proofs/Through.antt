@@ -27,36 +27,33 @@ use Rattle.bench.proofs.Succeeding.{accepts}
 
 -- ---- the table is made: the sheet is refused, or the room for the table is all of it
 
-module _ (s out out' : List ℕ) (o : Outcome) (d : Delivered (prepared s) out o out') (whole : length out ≡ table_length) where
-  made : verdict s ≡ Verdict.Accepted → Delivered (bytes (table_of (parse s))) out o out'
-  made a = rw a at d
+pub table_refused : (s out out' : List ℕ) (number place : ℕ) → Delivered (prepared s) out (Outcome.Refused number place) out'
+    → length out ≡ table_length → verdict s ≡ Verdict.Refused number place
+table_refused s out out' number place d whole = go (verdict s) refl d
+  where
+    go : (v : Verdict) → verdict s ≡ v → Delivered (room.unless v (table_of (parse s))) out (Outcome.Refused number place) out'
+        → verdict s ≡ Verdict.Refused number place
+    go Verdict.Accepted a f =
+        let l = table_length_law (parse s) in
+        let z : Outcome.Refused number place ≡ Outcome.Done (length (table_of (parse s))) =
+        writing.answered (table_of (parse s)) out _ out' (omega arith) f in
+        let y : ◌≡◌ {A = ℕ} 0 1 = cc in absurd (omega arith)
+    go (Verdict.Refused n p) q f = let z : Outcome.Refused number place ≡ Outcome.Refused n p = f.answer in q ∙ cc
 
-  pub table_refused : (number place : ℕ) → o ≡ Outcome.Refused number place → verdict s ≡ Verdict.Refused number place
-  table_refused number place e = go (verdict s) refl d
-    where
-      go : (v : Verdict) → verdict s ≡ v → Delivered (room.unless v (table_of (parse s))) out o out' → verdict s ≡ Verdict.Refused number place
-      go Verdict.Accepted a f =
-          let l = table_length_law (parse s) in
-          let z : Outcome.Refused number place ≡ Outcome.Done (length (table_of (parse s))) =
-          sym e ∙ writing.answered (table_of (parse s)) out o out' (omega arith) (made a) in
-          let y : ◌≡◌ {A = ℕ} 0 1 = cc in absurd (omega arith)
-      go (Verdict.Refused n p) q f =
-          let z : Outcome.Refused number place ≡ Outcome.Refused n p = sym e ∙ f.answer in
-          q ∙ cc
-
-  pub table_made : (n : ℕ) → o ≡ Outcome.Done n → (verdict s ≡ Verdict.Accepted) × (out' ≡ table_of (parse s))
-  table_made n e = go (verdict s) refl d
-    where
-      go : (v : Verdict) → verdict s ≡ v → Delivered (room.unless v (table_of (parse s))) out o out'
-          → (verdict s ≡ Verdict.Accepted) × (out' ≡ table_of (parse s))
-      go Verdict.Accepted a f =
-          let l = table_length_law (parse s) in (
-            a,
-            writing.filled (table_of (parse s)) out o out' (omega arith) (made a) ∙ writing.fill_all (table_of (parse s)) out (omega arith),
-          )
-      go (Verdict.Refused number place) q f =
-          let z : Outcome.Done n ≡ Outcome.Refused number place = sym e ∙ f.answer in
-          let y : ◌≡◌ {A = ℕ} 0 1 = cc in absurd (omega arith)
+pub table_made : (s out out' : List ℕ) (n : ℕ) → Delivered (prepared s) out (Outcome.Done n) out' → length out ≡ table_length
+    → (verdict s ≡ Verdict.Accepted) × (out' ≡ table_of (parse s))
+table_made s out out' n d whole = go (verdict s) refl d
+  where
+    go : (v : Verdict) → verdict s ≡ v → Delivered (room.unless v (table_of (parse s))) out (Outcome.Done n) out'
+        → (verdict s ≡ Verdict.Accepted) × (out' ≡ table_of (parse s))
+    go Verdict.Accepted a f =
+        let l = table_length_law (parse s) in (
+          a,
+          writing.filled (table_of (parse s)) out _ out' (omega arith) f ∙ writing.fill_all (table_of (parse s)) out (omega arith),
+        )
+    go (Verdict.Refused number place) q f =
+        let z : Outcome.Done n ≡ Outcome.Refused number place = f.answer in
+        let y : ◌≡◌ {A = ℕ} 0 1 = cc in absurd (omega arith)
 
 -- ---- what the call answers and leaves
 

@@ -1,8 +1,6 @@
 -- A run in numbers, for C and Rust: five words.
-use Rattle.std.specs.Prelude.{ℕ, Bool, false, cond, ◌&&◌, ◌||◌, List, [], ◌∷◌, eqb, ltb, length, get_or}
+use Rattle.std.specs.Prelude.{ℕ, Bool, false, cond, ◌&&◌, ◌||◌, List, [], ◌∷◌, Option, None, Some, eqb, ltb, length, get_or}
 use Rattle.lut.specs.Table.{one_if}
-use Rattle.bench.specs.declared.Earlier.{Earlier}
-use Rattle.bench.specs.declared.Earlier.TheVariants.{Nothing, Word}
 use Rattle.bench.specs.declared.Run.{Run}
 use Rattle.bench.specs.declared.Benched.{Benched}
 use Rattle.bench.specs.declared.Benched.TheVariants.{Done, Refused}
@@ -16,7 +14,7 @@ is_run ws =
 
 -- what stands for no run: its state is above 15, so that 24 refuses it, in its turn [A13, F24]
 abbrev pub no_run : Run
-no_run = record { state = 16; count = 0; earlier = Nothing; ended = false }
+no_run = record { state = 16; count = 0; earlier = None; ended = false }
 
 -- the run of words: state, count, whether there is an earlier word, that word, whether it has ended [A13]
 unfoldable pub run_of : (words : List ℕ) → Run
@@ -25,15 +23,15 @@ run_of ws =
     (record {
       state = get_or ws 0 0;
       count = get_or ws 1 0;
-      earlier = cond (eqb (get_or ws 2 0) 1) (Word (get_or ws 3 0)) Nothing;
+      earlier = cond (eqb (get_or ws 2 0) 1) (Some (get_or ws 3 0)) None;
       ended = eqb (get_or ws 4 0) 1;
     })
     no_run
 
 -- whether there is an earlier word, and that word, 0 where there is none [A13]
-abbrev pub earlier_words : Earlier → List ℕ → List ℕ
-earlier_words Nothing rest = 0 ∷ 0 ∷ rest
-earlier_words (Word w) rest = 1 ∷ w ∷ rest
+abbrev pub earlier_words : Option ℕ → List ℕ → List ℕ
+earlier_words None rest = 0 ∷ 0 ∷ rest
+earlier_words (Some w) rest = 1 ∷ w ∷ rest
 
 -- the words of a run [A13]
 abbrev pub words_of : Run → List ℕ

@@ -1,10 +1,8 @@
 -- A run: where it stands, the step of one sample, and a whole run of samples. Over any machine, so that nothing here
 -- knows how sources and sums are worked out.
-use Rattle.std.specs.Prelude.{ℕ, ◌+◌, ◌*◌, ◌/◌, ◌%◌, Bool, true, false, cond, not, ◌&&◌, ◌||◌, List, [], ◌∷◌, eqb, ltb}
+use Rattle.std.specs.Prelude.{ℕ, ◌+◌, ◌*◌, ◌/◌, ◌%◌, Bool, true, false, cond, not, ◌&&◌, ◌||◌, List, [], ◌∷◌, Option, None, Some, eqb, ltb}
 use Rattle.lines.specs.Line.{line}
 use Rattle.programme.specs.Machine.{Machine}
-use Rattle.bench.specs.declared.Earlier.{Earlier}
-use Rattle.bench.specs.declared.Earlier.TheVariants.{Nothing, Word}
 use Rattle.bench.specs.declared.Run.{Run}
 use Rattle.bench.specs.declared.Moved.{Moved}
 
@@ -22,12 +20,12 @@ is_last w = eqb (line w 31) 1
 
 -- a fresh run [R1]
 abbrev pub fresh : Run
-fresh = record { state = 0; count = 0; earlier = Nothing; ended = false }
+fresh = record { state = 0; count = 0; earlier = None; ended = false }
 
 -- the word before a sample; the first sample of all is its own [R3]
-abbrev pub earlier_of : Earlier → (sample : ℕ) → ℕ
-earlier_of Nothing sample = sample
-earlier_of (Word w) sample = w
+abbrev pub earlier_of : Option ℕ → (sample : ℕ) → ℕ
+earlier_of None sample = sample
+earlier_of (Some w) sample = w
 
 -- the slot of a state's hit sum, which is part 0 [R4, S5]
 abbrev pub hit_slot : (state : ℕ) → ℕ
@@ -67,7 +65,7 @@ sources_on m r sample = m.sources (earlier_of r.earlier sample) sample
 
 -- where a run stands that has looked at a sample: the sample is the next one's earlier word [R3]
 abbrev pub standing : Moved → (sample : ℕ) → Run
-standing v sample = record { state = v.state; count = v.count; earlier = Word sample; ended = v.ended }
+standing v sample = record { state = v.state; count = v.count; earlier = Some sample; ended = v.ended }
 
 -- the step of a run that looks at a sample [R7, R8]
 unfoldable pub step : Machine → Run → (sample : ℕ) → Run

@@ -1,14 +1,13 @@
 // The call: refusals in their order, then the walk.
 ghost use Rattle.std.specs.Prelude.{◌≡◌, length};
-ghost use Rattle.programme.specs.Table.{table_length, plain};
-ghost use Rattle.bench.specs.declared.Benched.TheVariants.{Done};
-ghost use Rattle.bench.specs.Run.{fresh, start_accepted, earlier_of};
+ghost use Rattle.programme.specs.Table.{plain};
+ghost use Rattle.bench.specs.Run.{fresh, start_accepted};
 ghost use Rattle.bench.specs.Call.{benched, benched_left, benched_number, benched_place, BenchNumbered};
-ghost use Rattle.bench.specs.Walk.{Starts, Delivers, Answers, run_from, ran_to};
+ghost use Rattle.bench.specs.Walk.{run_from, Starts, Delivers, Answers};
 
 use crate::moves::{number_of, word_of};
 use crate::walk::walk;
-use crate::{BAD_RUN, Benched, Earlier, MOST_SAMPLES, Run, TOO_MANY_SAMPLES, Walked};
+use crate::{BAD_RUN, Benched, MOST_SAMPLES, Run, TOO_MANY_SAMPLES, Table, Underway};
 use buffer::Outcome;
 
 // The run to begin with.
@@ -18,89 +17,49 @@ pub fn fresh() -> Run
     Run {
         state: 0,
         count: 0,
-        earlier: Earlier::Nothing,
+        earlier: None,
         ended: false,
     }
 }
 
 // Whether a run may be handed in: state 0 to 15, and a count below its number.
-fn start_accepted(table: &[u32], run: Run) -> bool
-    requires { length table.now ≡ table_length }
+#[tactic(auto, unfolding(crate::specs::Run::start_accepted))]
+fn start_accepted(table: &Table, run: Run) -> bool
     ensures { result ≡ start_accepted (plain table.now) run }
 {
-    if run.state < 16 {
-        return run.count < number_of(word_of(table, run.state));
-    }
-    false
-}
-
-// The earlier word of the first sample: what was handed in, or the sample itself.
-fn earlier_of(earlier: Earlier, sample: u32) -> u32
-    ensures { result ≡ earlier_of earlier sample }
-{
-    match earlier {
-        Earlier::Nothing => sample,
-        Earlier::Word(w) => w,
-    }
-}
-
-fn done(w: Walked) -> Benched
-    ensures { result ≡ Done w.taken (ran_to w) }
-{
-    Benched::Done(
-        w.taken,
-        Run {
-            state: w.state,
-            count: w.count,
-            earlier: Earlier::Word(w.earlier),
-            ended: w.ended,
-        },
-    )
+    run.state < 16 && run.count < number_of(word_of(table, run.state))
 }
 
 // The walk into room of our own, which is judged before a word of it is handed over: a refusal has written nothing.
-fn deliver_judged(
-    table: &[u32],
-    samples: &[u32],
-    state: u32,
-    count: u32,
-    earlier: u32,
-    out: &mut [u32],
-) -> Benched
-    requires { Starts table.now samples.now state count }
-    ensures { Delivers (plain table.now) samples.now (run_from state count earlier) out.old result out.new }
+#[tactic(auto, using(crate::proofs::Calling::too_short))]
+fn deliver_judged(table: &Table, samples: &[u32], from: Underway, out: &mut [u32]) -> Benched
+    requires { Starts table.now samples.now from }
+    ensures { Delivers (plain table.now) samples.now (run_from from.state from.count from.earlier) out.old result out.new }
 {
-    let mut room = [0u32; MOST_SAMPLES];
-    let w = walk(table, samples, state, count, earlier, &mut room);
-    let needed = w.taken;
+    let mut room = [0; MOST_SAMPLES];
+    let walked = walk(table, samples, from, &mut room);
+    let needed = walked.taken;
     if out.len() < needed {
         return Benched::Refused(buffer::OUTPUT_TOO_SHORT, needed);
     }
-    buffer::put_words(out, &room[0..needed]);
-    done(w)
+    buffer::put_words(out, &room[..needed]);
+    Benched::Done(needed, walked.run)
 }
 
 // The walk, right into the lent words where there is room for all samples.
-fn deliver(
-    table: &[u32],
-    samples: &[u32],
-    state: u32,
-    count: u32,
-    earlier: u32,
-    out: &mut [u32],
-) -> Benched
-    requires { Starts table.now samples.now state count }
-    ensures { Delivers (plain table.now) samples.now (run_from state count earlier) out.old result out.new }
+fn deliver(table: &Table, samples: &[u32], from: Underway, out: &mut [u32]) -> Benched
+    requires { Starts table.now samples.now from }
+    ensures { Delivers (plain table.now) samples.now (run_from from.state from.count from.earlier) out.old result out.new }
 {
     if out.len() < samples.len() {
-        return deliver_judged(table, samples, state, count, earlier, out);
+        return deliver_judged(table, samples, from, out);
     }
-    done(walk(table, samples, state, count, earlier, out))
+    let walked = walk(table, samples, from, out);
+    Benched::Done(walked.taken, walked.run)
 }
 
 // The call over a table.
-pub(crate) fn bench_table(table: &[u32], samples: &[u32], run: Run, out: &mut [u32]) -> Benched
-    requires { length table.now ≡ table_length }
+pub(crate) fn bench_table(table: &Table, samples: &[u32], run: Run, out: &mut [u32]) -> Benched
     ensures { Answers (plain table.now) samples.now run out.old result out.new }
 {
     if MOST_SAMPLES < samples.len() {
@@ -112,12 +71,15 @@ pub(crate) fn bench_table(table: &[u32], samples: &[u32], run: Run, out: &mut [u
     if run.ended {
         return Benched::Done(0, run);
     }
-    if samples.len() == 0 {
+    let Some(first) = samples.first() else {
         return Benched::Done(0, run);
-    }
-    let before = run.earlier;
-    let first = earlier_of(before, samples[0]);
-    deliver(table, samples, run.state, run.count, first, out)
+    };
+    let from = Underway {
+        state: run.state,
+        count: run.count,
+        earlier: run.earlier.unwrap_or(*first),
+    };
+    deliver(table, samples, from, out)
 }
 
 // The call on a sheet: its table is made once, and the samples are run over it.
@@ -126,7 +88,7 @@ pub fn bench(sheet: &[u8], samples: &[u32], run: Run, out: &mut [u32]) -> Benche
     ensures out_after { out.new ≡ benched_left sheet.now samples.now run out.old }
     ensures bench_numbered { BenchNumbered sheet.now samples.now run (length out.old) (benched_number result) (benched_place result) }
 {
-    let mut table = [0u32; programme::TABLE_LENGTH];
+    let mut table = [0; programme::TABLE_LENGTH];
     match programme::prepare(sheet, &mut table) {
         Outcome::Refused(number, place) => Benched::Refused(number, place),
         Outcome::Done(_) => bench_table(&table, samples, run, out),

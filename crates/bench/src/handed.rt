@@ -1,13 +1,11 @@
 // A run in five words, and the call for those who hand it over so.
-ghost use Rattle.std.specs.Prelude.{◌≡◌, cond, ◌&&◌, ◌||◌, [], eqb, ltb, length, get_or};
-ghost use Rattle.lut.specs.Table.{one_if};
+ghost use Rattle.std.specs.Prelude.{◌≡◌, ◌&&◌, ◌||◌, eqb, ltb, length};
 ghost use Rattle.buffer.specs.Verdict.{outcome_number, outcome_place};
-ghost use Rattle.bench.specs.declared.Earlier.TheVariants.{Nothing, Word};
 ghost use Rattle.bench.specs.Call.{benched, benched_left, BenchNumbered};
-ghost use Rattle.bench.specs.Handed.{no_run, run_of, earlier_words, words_of, handed_by, outcome_of};
+ghost use Rattle.bench.specs.Handed.{no_run, run_of, words_of, handed_by, outcome_of};
 
 use crate::call::bench;
-use crate::{Benched, Earlier, Run};
+use crate::{Benched, Run};
 use buffer::Outcome;
 
 // How many words a run has.
@@ -22,7 +20,7 @@ fn no_run() -> Run
     Run {
         state: NO_STATE,
         count: 0,
-        earlier: Earlier::Nothing,
+        earlier: None,
         ended: false,
     }
 }
@@ -36,71 +34,36 @@ fn are_flags(flag: u32, word: u32, ended: u32) -> bool
     flags & there
 }
 
-fn earlier_in(flag: u32, word: u32) -> Earlier
-    ensures { result ≡ cond (eqb flag 1) (Word word) Nothing }
-{
-    if flag == 1 {
-        Earlier::Word(word)
-    } else {
-        Earlier::Nothing
-    }
-}
-
 // The run of words; where they are none, one that 24 refuses.
+#[tactic(auto, unfolding(crate::specs::Handed::is_run, crate::specs::Handed::run_of))]
 fn run_of(words: &[u32]) -> Run
     ensures { result ≡ run_of words.now }
 {
-    if words.len() != RUN_WORDS {
+    let &[state, count, flag, word, ended] = words else {
         return no_run();
-    }
-    if !are_flags(words[2], words[3], words[4]) {
+    };
+    if !are_flags(flag, word, ended) {
         return no_run();
     }
     Run {
-        state: words[0],
-        count: words[1],
-        earlier: earlier_in(words[2], words[3]),
-        ended: words[4] == 1,
+        state,
+        count,
+        earlier: (flag == 1).then_some(word),
+        ended: ended == 1,
     }
 }
 
-fn flag_of(b: bool) -> u32
-    ensures { result ≡ one_if b }
+// The five words of a run; its earlier word is a flag and that word, 0 where there is none.
+fn words_of(run: Run) -> [u32; RUN_WORDS]
+    ensures { result ≡ words_of run }
 {
-    if b { 1 } else { 0 }
-}
-
-// Whether there is an earlier word.
-fn earlier_flag(earlier: Earlier) -> u32
-    ensures { result ≡ get_or (earlier_words earlier []) 0 0 }
-{
-    match earlier {
-        Earlier::Nothing => 0,
-        Earlier::Word(_) => 1,
-    }
-}
-
-// That word, 0 where there is none.
-fn earlier_word(earlier: Earlier) -> u32
-    ensures { result ≡ get_or (earlier_words earlier []) 1 0 }
-{
-    match earlier {
-        Earlier::Nothing => 0,
-        Earlier::Word(w) => w,
-    }
-}
-
-// The run into its five words.
-fn put_run(words: &mut [u32], run: Run)
-    requires { length words.old ≡ 5 }
-    ensures { words.new ≡ words_of run }
-{
-    let earlier = run.earlier;
-    words[0] = run.state;
-    words[1] = run.count;
-    words[2] = earlier_flag(earlier);
-    words[3] = earlier_word(earlier);
-    words[4] = flag_of(run.ended);
+    [
+        run.state,
+        run.count,
+        u32::from(run.earlier.is_some()),
+        run.earlier.unwrap_or(0),
+        u32::from(run.ended),
+    ]
 }
 
 // The call, for a run in words.
@@ -114,7 +77,7 @@ pub fn bench_words(sheet: &[u8], samples: &[u32], run: &mut [u32], out: &mut [u3
     match bench(sheet, samples, handed, out) {
         Benched::Refused(number, place) => Outcome::Refused(number, place),
         Benched::Done(n, next) => {
-            put_run(run, next);
+            run.copy_from_slice(&words_of(next));
             Outcome::Done(n)
         }
     }

@@ -12,6 +12,7 @@ mod walk;
 
 pub use call::{bench, fresh};
 pub use handed::bench_words;
+use programme::TABLE_LENGTH;
 
 // The most samples of a call.
 pub const MOST_SAMPLES: usize = 4096;
@@ -21,19 +22,16 @@ pub const TOO_MANY_SAMPLES: u8 = 20;
 
 pub const BAD_RUN: u8 = 24;
 
-// The word before the next sample, if there was one.
-#[derive(Clone, Copy)]
-pub enum Earlier {
-    Nothing,
-    Word(u32),
-}
+// The table that programme makes of a sheet.
+type Table = [u32; TABLE_LENGTH];
 
 // A run between two calls. A fresh one is in state 0 with count 0, has no earlier word and has not ended.
 #[derive(Clone, Copy)]
 pub struct Run {
     pub state: u32,
     pub count: u32,
-    pub earlier: Earlier,
+    // The word before the next sample, if there was one.
+    pub earlier: Option<u32>,
     pub ended: bool,
 }
 
@@ -46,21 +44,25 @@ pub enum Benched {
     Refused(u8, usize),
 }
 
-// Where a run stands after a sample.
+// A run that looks at the next sample: it has not ended, and there is a word before that sample.
 #[derive(Clone, Copy)]
-pub struct Moved {
-    pub state: u32,
-    pub count: u32,
-    pub ended: bool,
+struct Underway {
+    state: u32,
+    count: u32,
+    earlier: u32,
 }
 
-// What the walk over the samples leaves: how many were taken, and where the run stands after the last one that was
-// looked at.
+// Where a run stands after a sample.
 #[derive(Clone, Copy)]
-pub struct Walked {
-    pub taken: usize,
-    pub state: u32,
-    pub count: u32,
-    pub earlier: u32,
-    pub ended: bool,
+struct Moved {
+    state: u32,
+    count: u32,
+    ended: bool,
+}
+
+// What the walk over the samples leaves: how many were taken, and the run after the last one that was looked at.
+#[derive(Clone, Copy)]
+struct Walked {
+    taken: usize,
+    run: Run,
 }

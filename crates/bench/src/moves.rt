@@ -1,31 +1,32 @@
 // Where a run goes from a state.
-ghost use Rattle.std.specs.Prelude.{◌≡◌, false, ℕ, ◌+◌, ◌*◌, ◌<◌, ◌≤◌, length};
+ghost use Rattle.std.specs.Prelude.{◌≡◌, false, ℕ, ◌+◌, ◌*◌, ◌<◌, ◌≤◌};
 ghost use Rattle.bench.specs.Run.{number_of, after_hit, moved, capture_slot};
-ghost use Rattle.programme.specs.Table.{table_length, plain};
+ghost use Rattle.programme.specs.Table.{plain};
 ghost use Rattle.bench.specs.Asking.{addresses_of};
 
-use crate::Moved;
 use crate::sums::sum_at;
+use crate::{Moved, Table};
 
 // How often a state's hit sum must match; 0 counts as 1.
+#[tactic(auto, unfolding(crate::specs::Run::number_of))]
 pub(crate) fn number_of(word: u32) -> u32
     ensures { (result ≡ number_of word) × (result < 1048576) }
 {
-    let number = word % 1048576;
-    if number == 0 { 1 } else { number }
+    (word % 1048576).max(1)
 }
 
 fn going(state: u32, count: u32) -> Moved
     ensures { result ≡ record { state = state; count = count; ended = false } }
 {
     Moved {
-        state: state,
-        count: count,
+        state,
+        count,
         ended: false,
     }
 }
 
 // The hit sum matched.
+#[tactic(auto, unfolding(crate::specs::Run::after_hit))]
 fn after_hit(word: u32, state: u32, count: u32) -> Moved
     requires { (state < 16) × (count < 1048576) }
     ensures { result ≡ after_hit word state count }
@@ -36,7 +37,7 @@ fn after_hit(word: u32, state: u32, count: u32) -> Moved
     let last = lines::line_value(word, 31) == 1;
     if last | (state == 15) {
         return Moved {
-            state: state,
+            state,
             count: 0,
             ended: true,
         };
@@ -52,22 +53,24 @@ fn sums_of(state: u32) -> usize
     32 + 18 * (state as usize)
 }
 
-pub(crate) fn word_of(table: &[u32], state: u32) -> u32
-    requires { (length table.now ≡ table_length) × (state < 16) }
+#[tactic(auto, unfolding(programme::specs::Table::plain))]
+pub(crate) fn word_of(table: &Table, state: u32) -> u32
+    requires { state < 16 }
     ensures { result ≡ (plain table.now).word state }
 {
     table[320 + state as usize]
 }
 
-pub(crate) fn capture_matches(table: &[u32], state: u32, addresses: u32) -> bool
-    requires { (length table.now ≡ table_length) × (state < 16) }
+#[tactic(auto, using(crate::proofs::Slots::slot_matches))]
+pub(crate) fn capture_matches(table: &Table, state: u32, addresses: u32) -> bool
+    requires { state < 16 }
     ensures { (sources : ℕ) → addresses ≡ addresses_of sources → result ≡ (plain table.now).matches (capture_slot state) sources }
 {
     sum_at(table, sums_of(state) + 12, addresses)
 }
 
-pub(crate) fn move_on(table: &[u32], state: u32, count: u32, addresses: u32) -> Moved
-    requires { (length table.now ≡ table_length) × (state < 16) × (count < 1048576) }
+pub(crate) fn move_on(table: &Table, state: u32, count: u32, addresses: u32) -> Moved
+    requires { (state < 16) × (count < 1048576) }
     ensures { (sources : ℕ) → addresses ≡ addresses_of sources → result ≡ moved (plain table.now) state count sources }
 {
     let word = word_of(table, state);

@@ -1,41 +1,42 @@
 // Whether a sum matches, by its six words in the table, asked at the addresses that the sources give.
 ghost use Rattle.std.specs.Prelude.{◌≡◌, ◌+◌, ◌*◌, ◌%◌, ◌≤◌, ◌<◌, length};
 ghost use Rattle.lut.specs.Table.{answer_at};
-ghost use Rattle.sum.specs.Model.{first_pairs, last_pairs};
 ghost use Rattle.bench.specs.Asking.{address_at, four_of, addresses_of, inputs_at, sum_asked};
 ghost use Rattle.programme.specs.Table.{six_at};
 
+use crate::Table;
+
+// The sources of the pairs ab, c, d and e, and of fg, h, i and j: a and b of each one behind the other [M6].
+const FIRST_PAIRS: [u32; 8] = [0, 1, 2, 10, 3, 12, 4, 14];
+
+const LAST_PAIRS: [u32; 8] = [5, 6, 7, 11, 8, 13, 9, 15];
+
 // A third of the address at which the table of a pair is asked: source a drives its inputs 0 and 1, source b its inputs
 // 2 and 3. The third has one bit for each source, of which no branch is made; all are multiplied at once.
+#[tactic(auto, unfolding(crate::specs::Asking::address_at))]
 fn third_at(sources: u32, a: u32, b: u32) -> u32
     ensures { (3 * result ≡ address_at sources a b) × (result < 6) }
 {
     lines::line_value(sources, a) + 4 * lines::line_value(sources, b)
 }
 
-// Thirds of the addresses of the pairs ab, c, d and e, by their sources [M6].
-fn first_four(sources: u32) -> u32
-    ensures { (3 * result ≡ four_of sources first_pairs) × (result < 21846) }
+// Thirds of the addresses of four pairs, by their sources. Inlined, so that the pairs are constants in the code.
+#[inline(always)]
+fn thirds_of(sources: u32, pairs: [u32; 8]) -> u32
+    ensures { (3 * result ≡ four_of sources pairs) × (result < 21846) }
 {
-    third_at(sources, 0, 1)
-        + 16 * (third_at(sources, 2, 10)
-            + 16 * (third_at(sources, 3, 12) + 16 * third_at(sources, 4, 14)))
-}
-
-// Those of the pairs fg, h, i and j.
-fn last_four(sources: u32) -> u32
-    ensures { (3 * result ≡ four_of sources last_pairs) × (result < 21846) }
-{
-    third_at(sources, 5, 6)
-        + 16 * (third_at(sources, 7, 11)
-            + 16 * (third_at(sources, 8, 13) + 16 * third_at(sources, 9, 15)))
+    third_at(sources, pairs[0], pairs[1])
+        + 16 * (third_at(sources, pairs[2], pairs[3])
+            + 16 * (third_at(sources, pairs[4], pairs[5])
+                + 16 * third_at(sources, pairs[6], pairs[7])))
 }
 
 // All eight addresses of a sample's sources.
+#[tactic(auto, unfolding(crate::specs::Asking::addresses_of))]
 pub(crate) fn addresses_of(sources: u32) -> u32
     ensures { result ≡ addresses_of sources }
 {
-    3 * (first_four(sources) + 65536 * last_four(sources))
+    3 * (thirds_of(sources, FIRST_PAIRS) + 65536 * thirds_of(sources, LAST_PAIRS))
 }
 
 fn answer_in(table: u32, addresses: u32) -> u32
@@ -45,6 +46,7 @@ fn answer_in(table: u32, addresses: u32) -> u32
 }
 
 // The inputs of a mid table: the answers of four pairs, whose tables are the two words' halves.
+#[tactic(auto, unfolding(crate::specs::Asking::inputs_at))]
 fn inputs_at(first: u32, second: u32, addresses: u32) -> u32
     ensures { (result ≡ inputs_at first second addresses) × (result < 16) }
 {
@@ -55,7 +57,8 @@ fn inputs_at(first: u32, second: u32, addresses: u32) -> u32
 }
 
 // The sum whose words begin at an index of the table.
-pub(crate) fn sum_at(table: &[u32], at: usize, addresses: u32) -> bool
+#[tactic(auto, unfolding(crate::specs::Asking::sum_asked, programme::specs::Table::six_at))]
+pub(crate) fn sum_at(table: &Table, at: usize, addresses: u32) -> bool
     requires { at + 6 ≤ length table.now }
     ensures { result ≡ sum_asked (six_at table.now at) addresses }
 {

@@ -5,14 +5,14 @@ use mathlib.Core.Path.{◌≡◌, refl, sym, ap, ap₂, ◌∙◌}
 use mathlib.Core.List.{List, [], ◌∷◌, ◌++◌, map}
 use native.Mathlib.Decide.{dec_lt}
 use native.Mathlib.Omega.{arith}
-use native.Mathlib.Nat.{zero-mul}
+use native.Mathlib.Nat.{zero-mul, add-zero, sub-zero, sub_self, add_assoc, mul-le-mul_right}
 use lib.Dec.{lit<}
 use lib.Seq.{drop-drop, length-take-le}
 use lib.ListN.{length, get_or, take, drop, replicate, length-append, length-drop}
 use Rattle.command.specs.Command.{chain, Words}
 use Rattle.command.proofs.Written.{length_chain}
 use Rattle.records.specs.Sections.{sections, kind_of, most_of, slot_of, description_of}
-use Rattle.records.proofs.Bounds.{times}
+use Rattle.records.proofs.Bounds.{times, one_more}
 use Rattle.kinds.specs.Table.{words_of, chain_count, chain_length, pieces}
 use Rattle.kinds.proofs.Rows.{past, at_most}
 use Rattle.kinds.proofs.Ways as ways
@@ -99,21 +99,7 @@ section_known k slot h =
       | no n ↦ absurd (omega (arith, rw (past k (omega arith)) at h))
     ]
 
--- ---- the steps of a run of chains: `left` of them are still to be written, of the words from `from` on
-
--- one more chain
-pub chains_more : (address left each : ℕ) (ws : List ℕ) → 0 < left
-    → chains_from address (pieces (replicate left each) ws) ≡ chain address (take each ws) ++ chains_from (address + 1) (pieces (replicate (left - 1) each) (drop each ws))
-unfolding chains_from pieces
-chains_more address zero each ws h = absurd (omega arith)
-chains_more address (suc left) each ws h =
-    let e : suc left - 1 ≡ left = omega arith in
-    ap (λ (n : ℕ). chain address (take each ws) ++ chains_from (address + 1) (pieces (replicate n each) (drop each ws))) (sym e)
-
-pub chains_over : (address left each : ℕ) (ws : List ℕ) → left ≤ 0 → chains_from address (pieces (replicate left each) ws) ≡ []
-unfolding chains_from pieces
-chains_over address zero each ws h = refl
-chains_over address (suc left) each ws h = absurd (omega arith)
+-- ---- the steps of a run of chains
 
 -- all of them together
 pub chains_size : (address count each : ℕ) (ws : List ℕ) → count * each ≤ length ws
@@ -121,20 +107,33 @@ pub chains_size : (address count each : ℕ) (ws : List ℕ) → count * each �
 chains_size address count each ws h =
     chains_length address (pieces (replicate count each) ws) ∙ ap size_of (ways.pieces_lengths count each ws h) ∙ size_chains count each
 
-pub chains_step : (address count left each from : ℕ) (ws : List ℕ) → 0 < left → left ≤ count
-    → chains_from (address + (count - left)) (pieces (replicate left each) (drop from ws))
-    ≡ chain (address + (count - left)) (take (from + each - from) (drop from ws))
-    ++ chains_from (address + (count - (left - 1))) (pieces (replicate (left - 1) each) (drop (from + each) ws))
-chains_step address count left each from ws h l =
-    let due : address + (count - left) + 1 ≡ address + (count - (left - 1)) = omega arith in
-    let part : from + each - from ≡ each = omega arith in
-    rw (part, ← due, ← drop-drop each from ws) (chains_more (address + (count - left)) left each (drop from ws) h)
+-- those from number i on
+abbrev pub chains_behind : (address count each : ℕ) (ws : List ℕ) (i : ℕ) → List ℕ
+chains_behind address count each ws i = chains_from (address + i) (pieces (replicate (count - i) each) (drop (i * each) ws))
 
-pub chain_size : (address each from : ℕ) (ws : List ℕ) → from + each ≤ length ws → length (chain address (take (from + each - from) (drop from ws))) ≡ 5 + 5 * each
-chain_size address each from ws h =
-    let part : from + each - from ≡ each = omega arith in
-    length_chain address (take (from + each - from) (drop from ws))
-    ∙ ap (λ (n : ℕ). 5 + 5 * n) (ap (λ (n : ℕ). length (take n (drop from ws))) part ∙ length-take-le each (drop from ws) (omega (arith, length-drop from ws)))
+module _ (address count each : ℕ) (ws : List ℕ) where
+  pub chains_all : chains_from address (pieces (replicate count each) ws) ≡ chains_behind address count each ws 0
+  chains_all = rw (zero-mul each, add-zero address, sub-zero count)
+
+  pub chains_over : chains_behind address count each ws count ≡ []
+  unfolding chains_from pieces
+  chains_over = rw (sub_self count)
+
+  module _ (i : ℕ) (h : i < count) where
+    pub chains_step : chains_behind address count each ws i
+        ≡ chain (address + i) (take ((i + 1) * each - i * each) (drop (i * each) ws)) ++ chains_behind address count each ws (i + 1)
+    unfolding chains_from pieces
+    chains_step =
+        let left : count - i ≡ suc (count - (i + 1)) = omega arith in
+        let part : (i + 1) * each - i * each ≡ each = omega (arith, one_more i each) in
+        let more : (i + 1) * each ≡ i * each + each = omega (arith, one_more i each) in
+        rw (left, part, more, add_assoc, ← drop-drop each (i * each) ws)
+
+    pub chain_size : count * each ≤ length ws → length (chain (address + i) (take ((i + 1) * each - i * each) (drop (i * each) ws))) ≡ 5 + 5 * each
+    chain_size fits =
+        let part : (i + 1) * each - i * each ≡ each = omega (arith, one_more i each) in
+        let within : (i + 1) * each ≤ count * each = mul-le-mul_right each (omega arith) in
+        rw (part, length_chain (address + i) (take each (drop (i * each) ws)), length-take-le each (drop (i * each) ws) (omega (arith, length-drop (i * each) ws, one_more i each)))
 
 -- ---- the item of a record, whatever its section: the numbers of the table and the words that lie in longer room
 

@@ -1,13 +1,13 @@
 -- Laws of the stream: its length, how loops over records and over sections go through it, and what the records of an accepted
 -- sheet are. Assumes nothing.
-use Prim.Native.Nat.{ℕ, zero-le, ◌+◌, ◌-◌, ◌*◌, ◌≤◌, ◌<◌}
+use Prim.Native.Nat.{ℕ, zero-le, ◌+◌, ◌*◌, ◌≤◌, ◌<◌}
 use mathlib.Core.Path.{◌≡◌, sym, ap, ap₂, ◌∙◌}
 use mathlib.Core.List.{List, [], ◌∷◌, ◌++◌}
 use native.Mathlib.Nat.{zero-mul, suc-mul, add_comm, mul-le-mul}
 use native.Mathlib.Numerals.{add-one}
 use native.Mathlib.Omega.{arith}
-use lib.ListN.{length, get_or, take, drop, length-append, length-drop, drop_of_length-le}
-use lib.Seq.{drop-cons, drop-drop}
+use lib.ListN.{length, get_or, drop, length-append, drop_of_length-le}
+use lib.Seq.{drop-cons, take_at, drop_at}
 use Rattle.buffer.specs.declared.Verdict.TheVariants.{Accepted}
 use Rattle.records.specs.Sections.{sections, most_of, record_size}
 use Rattle.sheet.specs.Reading.{verdict}
@@ -21,8 +21,8 @@ use Rattle.sheet.proofs.Parsed.{ordered_count}
 use Rattle.sheet.proofs.Records.{section_ordered, records_of_law}
 use Rattle.sheet.proofs.Theorems.{section_is, section_count}
 use Rattle.compiler.specs.Items.{item_size}
-use Rattle.compiler.proofs.Joined.{item}
-use Rattle.compiler.proofs.Joined.{items, sent}
+use Rattle.compiler.specs.Chains.{loaded_in, commands_of}
+use Rattle.compiler.proofs.Joined.{item, items, items_joined, sent}
 use Rattle.compiler.proofs.ItemLaws.{item_length, item_bound}
 
 -- ---- the items of records
@@ -44,23 +44,22 @@ items_length k (r ∷ rs) =
     ∙ add_comm (item_size k) (length rs * item_size k)
     ∙ sym (suc-mul (length rs) (item_size k))
 
--- what is left of a part from an offset on: its first record, then those after it
-module _ (k : ℕ) (part : List ℕ) (from size : ℕ) (e : size ≡ record_size k) where
-  module _ (h : size ≤ length part - from) where
-    rest_records : records_in k (drop from part) ≡ take size (drop from part) ∷ records_in k (drop (from + size) part)
-    rest_records = rw (← drop-drop size from part, e) (records_cons k (drop from part) (rw (← e, length-drop) h))
+-- the first record of a part, and those behind it
+module _ (k : ℕ) (part r rest : List ℕ) (e : part ≡ r ++ rest) (l : length r ≡ record_size k) where
+  first_record : records_in k part ≡ r ∷ records_in k rest
+  first_record =
+      rw (e, records_cons k (r ++ rest) (omega (arith, length-append r rest)), take_at r rest (record_size k) l, drop_at r rest (record_size k) l)
 
-    pub rest_items : items k (records_in k (drop from part)) ≡ item k (take size (drop from part)) ++ items k (records_in k (drop (from + size) part))
-    unfolding items
-    rest_items = ap (items k) rest_records
-
-    pub rest_ordered : Ordered k 0 (records_in k (drop from part))
-        → Faultless k 0 (take size (drop from part)) × Ordered k 0 (records_in k (drop (from + size) part))
-    rest_ordered o = ordered_parts (rw rest_records at o)
-
-  pub rest_over : length part - from < size → items k (records_in k (drop from part)) ≡ []
+  pub first_item : items k (records_in k part) ≡ item k r ++ items k (records_in k rest)
   unfolding items
-  rest_over h = ap (items k) (records_none k (drop from part) (rw (← e, length-drop) h))
+  first_item = rw first_record
+
+  pub first_ordered : Ordered k 0 (records_in k part) → Faultless k 0 r × Ordered k 0 (records_in k rest)
+  first_ordered o = ordered_parts (rw first_record at o)
+
+pub no_item : (k : ℕ) (part : List ℕ) → length part < record_size k → items k (records_in k part) ≡ []
+unfolding items
+no_item k part h = ap (items k) (records_none k part h)
 
 -- ---- the items of sections
 
@@ -89,3 +88,11 @@ module _ (s : List ℕ) (ok : verdict s ≡ Accepted) (k : ℕ) (h : k < section
   part_bound =
       let few : length (get_or (parse s) k []) ≤ 255 = omega (arith, part_most, most_byte k) in
       omega (arith, mul-le-mul {n₁ = length (get_or (parse s) k [])} {m₁ = item_size k} {n₂ = 255} {m₂ = 1024} few (item_bound k))
+
+  -- of that part itself
+  module _ (part : List ℕ) (e : part ≡ section_of s k) where
+    pub part_ordered : Ordered k 0 (records_in k part)
+    part_ordered = rw (e, part_records) (section_ordered s k h ok)
+
+    pub part_items : commands_of (loaded_in k (records_in k part)) ≡ items k (get_or (parse s) k [])
+    part_items = rw (e, part_records) (sym (items_joined k (get_or (parse s) k [])))

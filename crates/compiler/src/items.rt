@@ -8,6 +8,7 @@ ghost use Rattle.compiler.specs.Chains.{loaded_at, loaded_of, commands_of};
 
 use buffer::{OUTPUT_TOO_SHORT, Outcome};
 use command::COMMAND_SIZE;
+use kinds::Row;
 
 // How many bytes an item of a section takes up: five for each select and for each word. None for a section that no sheet has.
 pub fn item_size(section: usize) -> usize
@@ -17,29 +18,19 @@ pub fn item_size(section: usize) -> usize
     row.chains * (COMMAND_SIZE + COMMAND_SIZE * row.each)
 }
 
-// So many chains of as many words each, at neighbouring addresses, each in the room behind the one before.
-fn put_chains(out: &mut [u8], address: u32, words: &[u32], count: usize, each: usize) -> Outcome
-    requires { (address < 1024) × (count ≤ 15) × (each ≤ 32) × (count * each ≤ length words.now) }
-    ensures { Delivered (bytes (commands_of (loaded_at address (pieces (replicate count each) words.now)))) out.old result out.new }
+// A section's chains, at neighbouring addresses, each in the room behind the one before.
+fn put_chains(out: &mut [u8], address: u32, words: &[u32], row: Row) -> Outcome
+    requires { (address < 1024) × (row.chains ≤ 15) × (row.each ≤ 32) × (row.chains * row.each ≤ length words.now) }
+    ensures { Delivered (bytes (commands_of (loaded_at address (pieces (replicate row.chains row.each) words.now)))) out.old result out.new }
 {
-    let size = COMMAND_SIZE + COMMAND_SIZE * each;
-    let needed = count * size;
+    let size = COMMAND_SIZE + COMMAND_SIZE * row.each;
+    let needed = row.chains * size;
     if out.len() < needed {
         return Outcome::Refused(OUTPUT_TOO_SHORT, needed);
     }
-    let mut at: usize = 0;
-    let mut from: usize = 0;
-    let mut left = count;
-    while 0 < left {
-        let end = from + each;
-        command::put_chain(
-            &mut out[at..],
-            address + (count - left) as u32,
-            &words[from..end],
-        );
-        at += size;
-        from = end;
-        left -= 1;
+    for i in 0..row.chains {
+        let chain = &words[i * row.each..(i + 1) * row.each];
+        command::put_chain(&mut out[i * size..], address + i as u32, chain);
     }
     Outcome::Done(needed)
 }
@@ -51,6 +42,5 @@ pub(crate) fn put_item(out: &mut [u8], section: usize, rec: &[u8], words: &mut [
 {
     kinds::put_words(words, section, records::description(rec));
     let address = kinds::address(section, records::slot(rec));
-    let row = kinds::row_of(section);
-    put_chains(out, address, words, row.chains, row.each)
+    put_chains(out, address, words, kinds::row_of(section))
 }

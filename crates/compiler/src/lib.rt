@@ -8,7 +8,7 @@ ghost use Rattle.buffer.specs.Room.{Delivered};
 ghost use Rattle.compiler.specs.Stream.{compiled, longest_stream};
 
 use buffer::Outcome;
-use stream::put_stream;
+use stream::Found;
 
 mod items;
 mod stream;
@@ -29,9 +29,9 @@ pub fn longest_stream() -> usize
 pub fn compile(sheet: &[u8], out: &mut [u8]) -> Outcome
     ensures { Delivered (compiled sheet.now) out.old result out.new }
 {
-    let found = sheet::judge_parts(sheet);
-    if found.refusal != 0 {
-        return Outcome::Refused(found.refusal, found.place);
+    let laid = sheet::judge_parts(sheet);
+    if laid.refusal != 0 {
+        return Outcome::Refused(laid.refusal, laid.place);
     }
-    put_stream(out, sheet, found)
+    Found { sheet, laid }.put(out)
 }

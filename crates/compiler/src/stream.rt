@@ -15,22 +15,12 @@ use buffer::{OUTPUT_TOO_SHORT, Outcome};
 use kinds::{MOST_WORDS, SENDING_ORDER};
 use sheet::Judged;
 
-// The part of a section.
-fn part_of<'a>(sheet: &'a [u8], found: Judged, section: usize) -> &'a [u8]
-    requires { (verdict sheet.now ≡ Accepted) × (found ≡ judged_of sheet.now) × (section < sections) }
-    ensures { result.now ≡ section_of sheet.now section }
-{
-    let starts = found.starts;
-    let sizes = found.sizes;
-    peek::prefix(peek::suffix(sheet, starts[section]), sizes[section])
-}
-
-// How many bytes the items of a section take up. There are at most 255 of them, and none has more than 1,024 bytes.
-fn section_size(sheet: &[u8], found: Judged, section: usize) -> usize
-    requires { (verdict sheet.now ≡ Accepted) × (found ≡ judged_of sheet.now) × (section < sections) }
-    ensures { (result ≡ length (commands_of (loaded_in section (get_or (parse sheet.now) section [])))) × (result ≤ 262144) }
-{
-    records::record_count(part_of(sheet, found, section), section) * item_size(section)
+// A sheet that was found without fault, and where its sections lie.
+#[derive(Drop)]
+pub(crate) struct Found<'a> {
+    pub(crate) sheet: &'a [u8],
+    pub(crate) laid: Judged,
+    ghost whole: { (verdict sheet.now ≡ Accepted) × (laid ≡ judged_of sheet.now) },
 }
 
 // The items of a part's records, from an index of the room on: it suffices. Answers the index behind them.
@@ -38,49 +28,57 @@ fn put_section(out: &mut [u8], at: usize, section: usize, part: &[u8]) -> usize
     requires { Ordered section 0 (records_in section part.now) × (at + length (commands_of (loaded_in section (records_in section part.now))) ≤ length out.old) }
     ensures { Wrote at (commands_of (loaded_in section (records_in section part.now))) out.old out.new result }
 {
-    let size = records::record_size(section);
     let step = item_size(section);
     let mut words = [0u32; MOST_WORDS];
     let mut to = at;
-    let mut from: usize = 0;
-    while size <= part.len() - from {
-        let rec = peek::prefix(peek::suffix(part, from), size);
+    for rec in part.chunks_exact(records::record_size(section)) {
         put_item(&mut out[to..], section, rec, &mut words);
         to += step;
-        from += size;
     }
     to
 }
 
-// How many bytes all the items of a sheet take up.
-fn stream_size(sheet: &[u8], found: Judged) -> usize
-    requires { (verdict sheet.now ≡ Accepted) × (found ≡ judged_of sheet.now) }
-    ensures { result ≡ length (stream_of (parse sheet.now)) }
-{
-    let mut size: usize = 0;
-    let mut i: usize = 0;
-    while i < SENDING_ORDER.len() {
-        size += section_size(sheet, found, SENDING_ORDER[i]);
-        i += 1;
+impl<'a> Found<'a> {
+    // The part of a section.
+    fn part(&self, section: usize) -> &'a [u8]
+        requires { section < sections }
+        ensures { result.now ≡ section_of self.now.sheet.now section }
+    {
+        let behind = peek::suffix(self.sheet, self.laid.starts[section]);
+        peek::prefix(behind, self.laid.sizes[section])
     }
-    size
-}
 
-// The items of all sections: the room is judged first, then each section is written behind the one before.
-pub(crate) fn put_stream(out: &mut [u8], sheet: &[u8], found: Judged) -> Outcome
-    requires { (verdict sheet.now ≡ Accepted) × (found ≡ judged_of sheet.now) }
-    ensures { Delivered (bytes (stream_of (parse sheet.now))) out.old result out.new }
-{
-    let needed = stream_size(sheet, found);
-    if out.len() < needed {
-        return Outcome::Refused(OUTPUT_TOO_SHORT, needed);
+    // How many bytes the items of a section take up. There are at most 255 of them, and none has more than 1,024 bytes.
+    fn section_size(&self, section: usize) -> usize
+        requires { section < sections }
+        ensures { (result ≡ length (commands_of (loaded_in section (get_or (parse self.now.sheet.now) section [])))) × (result ≤ 262144) }
+    {
+        records::record_count(self.part(section), section) * item_size(section)
     }
-    let mut at: usize = 0;
-    let mut i: usize = 0;
-    while i < SENDING_ORDER.len() {
-        let section = SENDING_ORDER[i];
-        at = put_section(out, at, section, part_of(sheet, found, section));
-        i += 1;
+
+    // How many bytes all the items take up.
+    fn size(&self) -> usize
+        ensures { result ≡ length (stream_of (parse self.now.sheet.now)) }
+    {
+        let mut size = 0;
+        for section in SENDING_ORDER.iter() {
+            size += self.section_size(*section);
+        }
+        size
     }
-    Outcome::Done(needed)
+
+    // The items of all sections: the room is judged first, then each section is written behind the one before.
+    pub(crate) fn put(&self, out: &mut [u8]) -> Outcome
+        ensures { Delivered (bytes (stream_of (parse self.now.sheet.now))) out.old result out.new }
+    {
+        let needed = self.size();
+        if out.len() < needed {
+            return Outcome::Refused(OUTPUT_TOO_SHORT, needed);
+        }
+        let mut at = 0;
+        for section in SENDING_ORDER {
+            at = put_section(out, at, section, self.part(section));
+        }
+        Outcome::Done(needed)
+    }
 }

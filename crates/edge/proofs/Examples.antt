@@ -4,6 +4,7 @@ use Prim.Native.Nat.{ℕ}
 use mathlib.Core.Path.{◌≡◌, refl}
 use mathlib.Core.Bool.{Bool, true, false, cond, not, ◌&&◌, ◌||◌}
 use mathlib.Core.List.{List, [], ◌∷◌, ◌++◌}
+use Rattle.std.proofs.Common.{Some}
 use lib.Dec.{T, eqb}
 use lib.ListN.{length}
 use Rattle.compare.specs.Same.{same}
@@ -11,7 +12,6 @@ use Rattle.lines.specs.Line.{over_lines}
 use Rattle.lut.specs.Table.{down}
 use Rattle.lut.specs.declared.Input.TheVariants.{Samples}
 use Rattle.lut.specs.declared.Telling.TheVariants.{Apart}
-use Rattle.edge.specs.declared.ReadEdge.TheVariants as ReadEdge
 use Rattle.edge.specs.Rule.{lines_accepted}
 use Rattle.edge.specs.Words.{pair_table, edge_words}
 use Rattle.edge.specs.Back.{covers, wish_from, read_edge}
@@ -55,7 +55,7 @@ unfolding each right lows low down pair_table same
 lows_hold = tt
 
 -- steady or rising on line 0 and steady or falling on line 1 is read as that [C5]
-pub steady_read : read_edge (0 ∷ 0 ∷ 0 ∷ 0 ∷ 0 ∷ 0 ∷ 0 ∷ 0xFFBF ∷ []) ≡ ReadEdge.Edge 1 2 3
+pub steady_read : read_edge (0 ∷ 0 ∷ 0 ∷ 0 ∷ 0 ∷ 0 ∷ 0 ∷ 0xFFBF ∷ []) ≡ Some (record { rise = 1; fall = 2; neither = 3 })
 unfolding covers wish_from over_lines down pair_table same
 steady_read = refl
 

@@ -7,7 +7,6 @@ pub mod Wish
 pub mod ReadingBack
 pub mod TellLine
 pub mod TellApart
-pub mod TellWalk
 pub mod Theorems
 pub mod Examples
 pub mod Ways

@@ -153,3 +153,7 @@ module _ (a b : Edge) (p : Accepted a) (q : Accepted b) where
       less : (x y : Edge) → HitAlike (hit x) (hit y) → (found : Telling) → Tells x y found → (t : Event) → asked t x ≤ asked t y
       less x y alike Alike w = w
       less x y alike (Apart i) w = absurd (not_alike (hit x i) (hit y i) w.0 w.1 (alike i w.2))
+
+-- an answer that is the one computed says what it should
+pub says : (a b : Edge) (answer : Telling) → answer ≡ edge_telling a b → Accepted a → Accepted b → Says (hit a) (hit b) answer
+says a b answer e p q = rw e (telling_says a b p q)

@@ -4,6 +4,7 @@ use mathlib.Core.Path.{◌≡◌, refl, sym, ap, ◌∙◌}
 use mathlib.Core.Bool.{false}
 use mathlib.Core.List.{List, [], ◌∷◌}
 use mathlib.Core.Logic.{◌↔◌}
+use Rattle.std.proofs.Common.{Option, Some, None}
 use lib.Dec.{lit<}
 use lib.ListN.{length}
 use Rattle.peek.specs.Bytes.{Bytes}
@@ -18,7 +19,6 @@ use Rattle.lut.specs.declared.Input.TheVariants.{Samples}
 use Rattle.lut.proofs.Asked.{alike_on_pairs}
 use Rattle.lut.proofs.Runs.{run_needed}
 use Rattle.edge.specs.declared.Edge.{Edge}
-use Rattle.edge.specs.declared.ReadEdge.{ReadEdge}
 use Rattle.edge.specs.Rule.{hit_of, hit, Accepted}
 use Rattle.edge.specs.Words.{words_of}
 use Rattle.edge.specs.Model.{words_hit, run_edge}
@@ -43,18 +43,18 @@ pub accepted_edge_misses : (d : Edge) → Accepted d
 accepted_edge_misses = apart.misses
 
 -- an accepted edge's words are read as that edge [C5, D2.5]
-pub words_read_back : (d : Edge) → Accepted d → read_edge (words_of d) ≡ ReadEdge.Edge d.rise d.fall d.neither
-words_read_back d = read_written d.rise d.fall d.neither
+pub words_read_back : (d : Edge) → Accepted d → read_edge (words_of d) ≡ Some d
+words_read_back = read_written
 
 -- words are refused unless an accepted edge writes them [C5, F16, D2.6]
-pub accepted_iff_written : (words : List ℕ) → (read_edge words ≡ ReadEdge.Refused → ⊥) ↔ Written Accepted words_of words
+pub accepted_iff_written : (words : List ℕ) → (read_edge words ≡ None → ⊥) ↔ Written Accepted words_of words
 accepted_iff_written ws =
     let numbered = read_numbered ws (read_edge ws) (read_means ws) in
     (λ n. numbered.read.0 (unrefused (read_edge ws) n), λ w e. numbered.refused.0 (ap read_number e) w)
   where
-    unrefused : (r : ReadEdge) → (r ≡ ReadEdge.Refused → ⊥) → read_number r ≡ 0
-    unrefused (ReadEdge.Edge rise fall neither) n = refl
-    unrefused ReadEdge.Refused n = absurd (n refl)
+    unrefused : (r : Option Edge) → (r ≡ None → ⊥) → read_number r ≡ 0
+    unrefused (Some e) n = refl
+    unrefused None n = absurd (n refl)
 
 module _ (a b : Edge) (p : Accepted a) (q : Accepted b) where
   -- two edges have the same chain words exactly when no two samples tell them apart [D3.2]

@@ -2,27 +2,27 @@
 -- that hit alike are the same. Assumes nothing.
 use Prim.Native.Nat.{ℕ, ◌<◌, ◌^◌}
 use mathlib.Core.Path.{◌≡◌, refl, sym, ap, ◌∙◌}
-use mathlib.Core.Bool.{true, false}
+use mathlib.Core.Bool.{true}
 use mathlib.Core.List.{List, [], ◌∷◌}
 use mathlib.Core.Logic.{◌↔◌}
+use Rattle.std.proofs.Common.{Option, Some, None}
 use native.Mathlib.Nat.{not-suc-le-zero}
 use native.Mathlib.Omega.{arith}
-use lib.Dec.{lit<}
 use lib.ListN.{length, get_or}
 use Rattle.lut.specs.Telling.{HitAlike}
 use Rattle.peek.specs.Bytes.{Bytes}
 use Rattle.peek.specs.Fields.{field_of, field_bytes, Writes}
 use Rattle.buffer.proofs.Faults.{unless_none}
 use Rattle.peek.proofs.Numbers.{u32_small}
-use Rattle.peek.proofs.FieldLaws.{fields_bytes, fields_read, fit₃, same₃}
-use Rattle.edge.specs.declared.ReadEdge.{ReadEdge}
+use Rattle.peek.proofs.FieldLaws.{fields_bytes}
+use Rattle.edge.specs.declared.Edge.{Edge}
 use Rattle.edge.specs.Rule.{edge_accepted, hit, Accepted}
-use Rattle.edge.specs.Words.{edge_words}
+use Rattle.edge.specs.Words.{words_of}
 use Rattle.edge.specs.Back.{read_edge, ReadMeans}
 use Rattle.edge.specs.Description.{size, from_bytes, to_bytes, fault, words, bytes_read, back}
 use Rattle.edge.proofs.ReadingBack.{read_means}
 use Rattle.edge.proofs.WordLaws.{words_length, words_lt}
-use Rattle.edge.proofs.Theorems.{words_read_back, alike_same, bytes_inverse}
+use Rattle.edge.proofs.Theorems.{words_read_back, alike_same, bytes_inverse, description_inverse}
 
 pub words_count : (d : List ℕ) → length (words d) ≡ 8
 unfolding words
@@ -31,10 +31,6 @@ words_count d = words_length (field_of d 0) (field_of d 1) (field_of d 2)
 pub fault_none : (d : List ℕ) → edge_accepted (field_of d 0) (field_of d 1) (field_of d 2) ≡ true → fault d ≡ 0
 unfolding fault
 fault_none d e = rw e
-
-pub fault_all_asked : (d : List ℕ) → edge_accepted (field_of d 0) (field_of d 1) (field_of d 2) ≡ false → fault d ≡ 9
-unfolding fault
-fault_all_asked d e = rw e
 
 pub accepted : (d : List ℕ) → Bytes d → fault d ≡ 0 → Accepted (from_bytes d)
 unfolding fault
@@ -59,20 +55,17 @@ pub back_words : (d : List ℕ) → Bytes d → length d ≡ size → fault d �
 unfolding back words field_bytes
 back_words d h l f = ap bytes_read (words_read_back (from_bytes d) (accepted d h f)) ∙ bytes_inverse d h l
 
-read_writes : (ws : List ℕ) (r : ReadEdge) → ReadMeans ws r → 0 < length (bytes_read r) → Writes size fault words ws (bytes_read r)
+read_writes : (ws : List ℕ) (r : Option Edge) → ReadMeans ws r → 0 < length (bytes_read r) → Writes size fault words ws (bytes_read r)
 unfolding words field_bytes
-read_writes ws (ReadEdge.Edge r f n) w h =
-    let read = fields_read (r ∷ f ∷ n ∷ []) (fit₃ r f n w.accepted.rise_fits w.accepted.fall_fits w.accepted.neither_fits) in
-    let fr = read 0 (lit< tt) in
-    let ff = read 1 (lit< tt) in
-    let fn = read 2 (lit< tt) in
+read_writes ws (Some e) w h =
+    let again = description_inverse e w.accepted in
     record {
-      are_bytes = fields_bytes (r ∷ f ∷ n ∷ []);
+      are_bytes = fields_bytes (e.rise ∷ e.fall ∷ e.neither ∷ []);
       whole = refl;
-      faultless = fault_none (field_bytes (r ∷ f ∷ n ∷ [])) (same₃ edge_accepted fr ff fn ∙ w.accepted.ok);
-      written = same₃ edge_words fr ff fn ∙ sym w.written;
+      faultless = fault_none (to_bytes e) (ap (λ (d : Edge). edge_accepted d.rise d.fall d.neither) again ∙ w.accepted.ok);
+      written = ap words_of again ∙ sym w.written;
     }
-read_writes ws ReadEdge.Refused w h = absurd (not-suc-le-zero h)
+read_writes ws None w h = absurd (not-suc-le-zero h)
 
 pub back_writes : (ws : List ℕ) → 0 < length (back ws) → Writes size fault words ws (back ws)
 unfolding back

@@ -1,7 +1,7 @@
 -- The lines that ask for an event come out of the words of accepted lines as they went in; and the loop that gathers them. Assumes nothing.
 use Prim.Native.Nat.{ℕ, zero, suc, ◌+◌, ◌*◌, ◌/◌, ◌%◌, ◌^◌, ◌<◌, ◌≤◌}
 use mathlib.Core.Path.{◌≡◌, ap, ap₂, ◌∙◌}
-use mathlib.Core.Bool.{true}
+use mathlib.Core.Bool.{Bool, true}
 use mathlib.Core.List.{List, [], ◌∷◌}
 use native.Mathlib.Nat.{lt_of_lt_of_le, div-one, add-zero, add-mul, mul_assoc, add_assoc}
 use native.Mathlib.Numerals.{add-one}
@@ -21,7 +21,7 @@ use Rattle.lut.proofs.Tables.{one_lt}
 use Rattle.edge.specs.declared.Edge.{Edge}
 use Rattle.edge.specs.declared.Event.{Event}
 use Rattle.edge.specs.Rule.{line_accepted, edge_accepted}
-use Rattle.edge.specs.Words.{lower_table, upper_table, pair_table, word_at, edge_words}
+use Rattle.edge.specs.Words.{lower_table, upper_table, pair_table, word_at, words_of}
 use Rattle.edge.specs.Back.{covers, word_wish, wish_from, wish_of}
 use Rattle.edge.specs.Telling.{asked}
 use Rattle.edge.proofs.Pair.{two_lines, pair_lt, pair_read}
@@ -67,38 +67,39 @@ shift_in k a x =
     rw (q, mod-pow-add x 4 (4 * k), pow-add 2 4 (4 * k), add-mul, mul_assoc, add_assoc)
 
 -- the wishes of accepted lines, for an event
-module _ (t : Event) (r f n : ℕ) where
-  wish : ℕ
-  wish = asked t (record { rise = r; fall = f; neither = n })
+module _ (t : Event) (d : Edge) where
+  -- line i does not ask for all three
+  line_ok : ℕ → Bool
+  line_ok i = line_accepted (line d.rise i) (line d.fall i) (line d.neither i)
 
-  word_read : (k : ℕ) → ((i : ℕ) → i < 4 * suc k → line_accepted (line r i) (line f i) (line n i) ≡ true)
-      → word_wish (upper_table t) (lower_table t) (word_at r f n k) ≡ wish / 2 ^ (4 * k) % 16
-  unfolding wish
+  word : ℕ → ℕ
+  word k = word_at d.rise d.fall d.neither k
+
+  word_read : (k : ℕ) → ((i : ℕ) → i < 4 * suc k → line_ok i ≡ true)
+      → word_wish (upper_table t) (lower_table t) (word k) ≡ asked t d / 2 ^ (4 * k) % 16
+  unfolding line_ok word
   word_read k ok =
-      let upper = pair_table (2 * k + 1) r f n in
-      let lower = pair_table (2 * k) r f n in
-      let d : Edge = record { rise = r; fall = f; neither = n } in
+      let upper = pair_table (2 * k + 1) d.rise d.fall d.neither in
+      let lower = pair_table (2 * k) d.rise d.fall d.neither in
       let hi = pair_read t (2 * k + 1) d (ok _ (omega arith)) (ok _ (omega arith)) in
       let lo = pair_read t (2 * k) d (ok _ (omega arith)) (ok _ (omega arith)) in
       ap₂ (λ (a b : ℕ). covers a (upper_table t) * 8 + covers a (lower_table t) * 4 + covers b (upper_table t) * 2 + covers b (lower_table t))
-      (high_half upper lower (pair_lt (2 * k) r f n)) (low_half upper lower (pair_lt (2 * k) r f n))
-      ∙ rw (hi.0, hi.1, lo.0, lo.1) (quad (asked t (record { rise = r; fall = f; neither = n })) k)
+      (high_half upper lower (pair_lt (2 * k) d.rise d.fall d.neither)) (low_half upper lower (pair_lt (2 * k) d.rise d.fall d.neither))
+      ∙ rw (hi.0, hi.1, lo.0, lo.1) (quad (asked t d) k)
 
   -- after the lines a, the words of the lowest 4k lines
-  words_read_law : (k a : ℕ) → ((i : ℕ) → i < 4 * k → line_accepted (line r i) (line f i) (line n i) ≡ true)
-      → wish_from (upper_table t) (lower_table t) (down (word_at r f n) k) a ≡ a * 2 ^ (4 * k) + wish % 2 ^ (4 * k)
+  words_read_law : (k a : ℕ) → ((i : ℕ) → i < 4 * k → line_ok i ≡ true)
+      → wish_from (upper_table t) (lower_table t) (down word k) a ≡ a * 2 ^ (4 * k) + asked t d % 2 ^ (4 * k)
   unfolding wish_from down
   words_read_law zero a ok = omega arith
   words_read_law (suc k) a ok =
-      ap (λ (x : ℕ). wish_from (upper_table t) (lower_table t) (down (word_at r f n) k) (a * 16 + x)) (word_read k ok)
-      ∙ words_read_law k (a * 16 + wish / 2 ^ (4 * k) % 16) (λ i h. ok i (omega arith))
-      ∙ shift_in k a wish
+      ap (λ (x : ℕ). wish_from (upper_table t) (lower_table t) (down word k) (a * 16 + x)) (word_read k ok)
+      ∙ words_read_law k (a * 16 + asked t d / 2 ^ (4 * k) % 16) (λ i h. ok i (omega arith))
+      ∙ shift_in k a (asked t d)
 
-  pub wish_read : edge_accepted r f n ≡ true → asked t (record { rise = r; fall = f; neither = n }) < 2 ^ 32
-      → wish_of t (edge_words r f n) ≡ asked t (record { rise = r; fall = f; neither = n })
-  unfolding wish
-  wish_read ok h =
-      words_read_law 8 0 (λ i g. every_at 32 (λ i. line_accepted (line r i) (line f i) (line n i)) ok i g) ∙ omega arith
+  pub wish_read : edge_accepted d.rise d.fall d.neither ≡ true → asked t d < 2 ^ 32 → wish_of t (words_of d) ≡ asked t d
+  unfolding line_ok word
+  wish_read ok h = words_read_law 8 0 (λ i g. every_at 32 line_ok ok i g) ∙ omega arith
 
 -- ---- the loop that gathers one wish
 

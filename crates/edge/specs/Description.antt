@@ -1,10 +1,9 @@
 -- An edge's description in a sheet, as bytes: what every kind of record answers of its own.
-use Rattle.std.specs.Prelude.{ℕ, List, [], ◌∷◌}
+use Rattle.std.specs.Prelude.{ℕ, List, [], ◌∷◌, Option, Some, None}
 use Rattle.lut.specs.declared.Telling.{Telling}
 use Rattle.buffer.specs.Verdict.{fault_unless}
 use Rattle.peek.specs.Fields.{field_of, field_bytes}
 use Rattle.edge.specs.declared.Edge.{Edge}
-use Rattle.edge.specs.declared.ReadEdge.{ReadEdge}
 use Rattle.edge.specs.Rule.{edge_accepted}
 use Rattle.edge.specs.Words.{words_of}
 use Rattle.edge.specs.Back.{read_edge}
@@ -31,9 +30,9 @@ unfoldable pub words : List ℕ → List ℕ
 words d = words_of (from_bytes d)
 
 -- the description of an answer of the way back; no bytes where it is refused [B7, C5]
-abbrev pub bytes_read : ReadEdge → List ℕ
-bytes_read (ReadEdge.Edge rise fall neither) = to_bytes (record { rise = rise; fall = fall; neither = neither })
-bytes_read ReadEdge.Refused = []
+abbrev pub bytes_read : Option Edge → List ℕ
+bytes_read (Some e) = to_bytes e
+bytes_read None = []
 
 -- computed: the description that words are read as, no bytes if there is none; theorem read_means [B6, B7, C5, F16]
 unfoldable pub back : List ℕ → List ℕ

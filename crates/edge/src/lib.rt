@@ -30,12 +30,3 @@ enum Event {
     Fall,
     Neither,
 }
-
-// What reading chain words gives.
-#[derive(Clone, Copy)]
-pub enum ReadEdge {
-    // Rise, fall and neither of the accepted description that writes the words.
-    Edge(u32, u32, u32),
-    // Refusal 16: no accepted description writes them.
-    Refused,
-}

@@ -22,6 +22,7 @@ fn show_event(event: Event, lines: u32, missed: Edge) -> Telling
 }
 
 // Samples on which a hits and b misses, by an event that a asks for on lines on which b does not.
+#[tactic(auto, unfolding(crate::specs::Telling::tell_by))]
 fn tell_one(a: Edge, b: Edge) -> Telling
     ensures { result ≡ tell_one a b }
 {
@@ -45,9 +46,8 @@ pub(crate) fn edge_telling(old: Edge, new: Edge) -> Telling
     ensures value { result ≡ edge_telling old new }
     ensures meaning { Accepted old → Accepted new → Says (hit old) (hit new) result }
 {
-    let found = tell_one(old, new);
-    match found {
+    match tell_one(old, new) {
         Telling::Alike => tell_one(new, old),
-        Telling::Apart(input) => Telling::Apart(input),
+        apart => apart,
     }
 }

@@ -1,7 +1,7 @@
 // The entries of the table that a bench makes of a sheet: one shape for each kind, and one for a slot without record.
 // Promises: each call equals its column of the table of sections (kinds/specs), for any section number and any bytes.
 // Rests on: kinds (the sections' numbers), sum and state (words), lines (scatter), peek and buffer (lent bytes and room).
-#![tactic(auto)]
+#![tactic(auto, using(kinds::proofs::Rows::past), unfolding(kinds::specs::Table::kind_of, kinds::specs::Table::entry_of, kinds::specs::Table::missing_of))]
 
 ghost use Rattle.buffer.specs.Room.{bytes, Delivered};
 ghost use Rattle.kinds.specs.Table.{entry_of, missing_of};

@@ -1,116 +1,111 @@
 // A walk over a sheet by its counts: which count or record starts at an offset, and which record had a label first.
-ghost use Rattle.std.specs.Prelude.{◌≡◌, ◌-◌, ◌≤◌};
+ghost use Rattle.std.specs.Prelude.{◌-◌, ◌≤◌};
 
 use records::{label, record_size};
 
-// What starts at `at`: the count of a section, or a record of it by its number, the first being 1.
+// What starts at `at`: the count of a section, or a record of it.
 #[derive(Clone, Copy)]
 pub struct Cursor {
     pub at: usize,
     pub section: usize,
-    // 0 for the count.
-    pub record: usize,
-    // How many records the section has, where `record` is not 0.
+    // None for the count.
+    pub record: Option<Nth>,
+}
+
+// One of so many; the first has the number 1.
+#[derive(Clone, Copy)]
+pub struct Nth {
+    pub number: usize,
     pub count: usize,
 }
 
-pub fn start() -> Cursor {
-    Cursor {
-        at: 0,
-        section: 0,
-        record: 0,
-        count: 0,
+impl Nth {
+    // The one behind it, if there is one.
+    fn next(self) -> Option<Nth> {
+        if self.number < self.count {
+            Some(Nth {
+                number: self.number + 1,
+                count: self.count,
+            })
+        } else {
+            None
+        }
     }
 }
 
-// What comes behind it, no further than `end`.
-pub fn next(sheet: &[u8], here: Cursor, end: usize) -> Cursor
-    ensures { end - result.at ≤ end - here.at - 1 }
-{
-    if here.record == 0 {
-        let count = peek::byte_at(sheet, here.at) as usize;
-        return entered(here.section, count, ahead(here.at, 1, end));
+impl Cursor {
+    // The first count.
+    pub fn start() -> Cursor {
+        Cursor {
+            at: 0,
+            section: 0,
+            record: None,
+        }
     }
-    let at = ahead(here.at, record_size(here.section), end);
-    if here.record < here.count {
-        return Cursor {
-            at,
-            section: here.section,
-            record: here.record + 1,
-            count: here.count,
+
+    // What comes behind it, no further than `end`.
+    pub fn next(self, sheet: &[u8], end: usize) -> Cursor
+        ensures { end - result.at ≤ end - self.at - 1 }
+    {
+        let (size, here) = match self.record {
+            None => (1, before_first(peek::byte_at(sheet, self.at))),
+            Some(record) => (record_size(self.section), record),
         };
-    }
-    entered(here.section, 0, at)
-}
-
-// Behind a count, or behind a section's last record, where no more are to come.
-fn entered(section: usize, count: usize, at: usize) -> Cursor
-    ensures { result.at ≡ at }
-{
-    if count == 0 {
-        return Cursor {
-            at,
-            section: if section < kinds::SECTIONS {
-                section + 1
-            } else {
-                section
+        let at = ahead(self.at, size, end);
+        match here.next() {
+            Some(record) => Cursor {
+                at,
+                section: self.section,
+                record: Some(record),
             },
-            record: 0,
-            count: 0,
-        };
+            None => Cursor {
+                at,
+                section: self.section.saturating_add(1).min(kinds::SECTIONS),
+                record: None,
+            },
+        }
     }
-    Cursor {
-        at,
-        section,
-        record: 1,
-        count,
+}
+
+// Where a count stands, before its first record.
+fn before_first(count: u8) -> Nth {
+    Nth {
+        number: 0,
+        count: usize::from(count),
     }
 }
 
 // So many bytes on, at least one, and no further than `end`.
-pub fn ahead(at: usize, size: usize, end: usize) -> usize
+fn ahead(at: usize, size: usize, end: usize) -> usize
     ensures { end - result ≤ end - at - 1 }
 {
-    if end <= at {
-        return end;
-    }
-    if size == 0 {
-        return end;
-    }
-    if end - at < size { end } else { at + size }
+    at.saturating_add(size.max(1)).min(end)
 }
 
 // What starts at a place that a sheet's refusal names.
 pub(crate) fn seek(sheet: &[u8], place: usize) -> Cursor {
-    let mut here = start();
+    let mut here = Cursor::start();
     while here.at < place {
-        here = next(sheet, here, place);
+        here = here.next(sheet, place);
     }
     here
 }
 
 // The first record of a section that has the label of this later one; the later one itself where no other has.
 pub(crate) fn first_alike(sheet: &[u8], later: Cursor) -> Cursor {
-    let mut here = start();
+    let mut here = Cursor::start();
     while here.at < later.at {
         if is_alike(sheet, here, later) {
             return here;
         }
-        here = next(sheet, here, later.at);
+        here = here.next(sheet, later.at);
     }
     later
 }
 
 // Whether two records are of one section and have one label; a count has none.
 fn is_alike(sheet: &[u8], here: Cursor, later: Cursor) -> bool {
-    if here.record == 0 {
-        return false;
-    }
-    if here.section != later.section {
-        return false;
-    }
-    compare::same_bytes(
-        label(peek::suffix(sheet, here.at)),
-        label(peek::suffix(sheet, later.at)),
-    )
+    here.record.is_some()
+        && here.section == later.section
+        && label(peek::suffix(sheet, here.at)) == label(peek::suffix(sheet, later.at))
 }

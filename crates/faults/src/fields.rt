@@ -1,33 +1,29 @@
 // The field of a state that is too big for its place, beside the most that fits.
 use crate::values::first_outside;
 use state::{FLAG_LAST, NUMBER_LAST, STATE_LAST};
-use text::{ELSE_STATE, FLAGS, put_number, put_trimmed};
+use std::fmt::{self, Write};
+use text::{ELSE_STATE, FLAGS, Line};
 
 // The first such field.
-pub(crate) fn put_state(out: &mut [u8], at: usize, description: &[u8]) -> usize {
+pub(crate) fn put_state(line: &mut Line, description: &[u8]) -> fmt::Result {
     let number = peek::u32_at(description, 0);
     let branch = peek::byte_at(description, ELSE_STATE);
     if NUMBER_LAST < number {
-        let a = put_number(out, at, b"number ", number as usize);
-        return put_most(out, a, NUMBER_LAST as usize);
+        return write!(line, "number {number}, where at most {NUMBER_LAST} fits");
     }
     if STATE_LAST < branch {
-        let a = put_number(out, at, b"else state ", branch as usize);
-        return put_most(out, a, STATE_LAST as usize);
+        return write!(line, "else state {branch}, where at most {STATE_LAST} fits");
     }
-    put_flag(out, at, peek::suffix(description, FLAGS))
-}
-
-fn put_most(out: &mut [u8], at: usize, most: usize) -> usize {
-    let a = put_number(out, at, b", where at most ", most);
-    buffer::put_at(out, a, b" fits")
+    put_flag(line, peek::suffix(description, FLAGS))
 }
 
 // The first flag that is neither 0 nor 1.
-fn put_flag(out: &mut [u8], at: usize, flags: &[u8]) -> usize {
+fn put_flag(line: &mut Line, flags: &[u8]) -> fmt::Result {
     let i = first_outside(flags, 0, FLAG_LAST);
-    let a = buffer::put_at(out, at, b"flag ");
-    let b = put_trimmed(out, a, &text::flag_name(i));
-    let c = put_number(out, b, b" is ", peek::byte_at(flags, i) as usize);
-    buffer::put_at(out, c, b", where a flag is 0 or 1")
+    write!(
+        line,
+        "flag {} is {}, where a flag is 0 or 1",
+        text::flag_name(i),
+        peek::byte_at(flags, i)
+    )
 }

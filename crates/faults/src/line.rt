@@ -1,50 +1,32 @@
 // What stands at the place of a refusal of a sheet.
 use crate::cursor::seek;
 use crate::record::put_record;
-use text::{put_bits, put_number, put_trimmed};
+use std::fmt::{self, Write};
+use text::Line;
 
 const COUNT_TOO_BIG: u8 = 2;
 
 const LEFT_OVER: u8 = 11;
 
 // What is wrong in a sheet that `sheet::check` refuses with this number and place.
-pub fn put_sheet_detail(
-    out: &mut [u8],
-    at: usize,
-    sheet: &[u8],
-    number: u8,
-    place: usize,
-) -> usize {
-    let here = seek(sheet, place);
+pub fn put_sheet_detail(line: &mut Line, sheet: &[u8], number: u8, place: usize) -> fmt::Result {
+    let there = peek::byte_at(sheet, place);
     if number == LEFT_OVER {
-        return put_left_over(out, at, sheet, place);
+        return write!(line, "byte {there:02X} hex after the last section");
     }
-    let a = put_trimmed(out, at, &text::section_name(here.section));
-    if here.record == 0 {
-        put_count(out, a, sheet, number, here.section, place)
-    } else {
-        put_record(out, a, sheet, number, here)
+    let here = seek(sheet, place);
+    line.write_str(text::section_name(here.section))?;
+    match here.record {
+        None => put_count(line, number, there, records::most(here.section)),
+        Some(record) => put_record(line, sheet, number, here, record),
     }
-}
-
-fn put_left_over(out: &mut [u8], at: usize, sheet: &[u8], place: usize) -> usize {
-    let a = put_bits(out, at, b"byte ", peek::byte_at(sheet, place) as u32, 2);
-    buffer::put_at(out, a, b" hex after the last section")
 }
 
 // A count at fault: it is missing, or above the section's most.
-fn put_count(
-    out: &mut [u8],
-    at: usize,
-    sheet: &[u8],
-    number: u8,
-    section: usize,
-    place: usize,
-) -> usize {
-    if number != COUNT_TOO_BIG {
-        return buffer::put_at(out, at, b": the count is missing");
+fn put_count(line: &mut Line, number: u8, count: u8, most: usize) -> fmt::Result {
+    if number == COUNT_TOO_BIG {
+        write!(line, ": count {count}, where {most} is the most")
+    } else {
+        write!(line, ": the count is missing")
     }
-    let a = put_number(out, at, b": count ", peek::byte_at(sheet, place) as usize);
-    let b = put_number(out, a, b", where ", records::most(section));
-    buffer::put_at(out, b, b" is the most")
 }

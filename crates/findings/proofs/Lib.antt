@@ -1,2 +1,3 @@
 pub mod Walking
 pub mod Members
+pub mod Chunks

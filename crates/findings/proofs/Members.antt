@@ -1,6 +1,6 @@
 -- Which lines a notice has: a line is there exactly if what it says of its slot's two records holds. Assumes nothing.
 use Prim.Native.Nat.{ℕ, zero, suc, ◌+◌, ◌≤◌, ◌<◌}
-use mathlib.Core.Path.{◌≡◌, refl, sym, ap, ◌∙◌, subst}
+use mathlib.Core.Path.{◌≡◌, refl, sym, ap, subst}
 use mathlib.Core.Bool.{Bool, true, false, cond}
 use mathlib.Core.List.Memᴰ
 use mathlib.Core.List.{List, [], ◌∷◌, Memᴰ, cons≢nil}
@@ -114,10 +114,7 @@ same_finding : (k s : ℕ) (f g : Finding) → line k s f ≡ line k s g → f �
 same_finding k s f g e = ap (λ (l : Line). l.finding) e
 
 differ : (a b : List ℕ) → same a b ≡ false → a ≡ b → ⊥
-differ a b e q =
-    let z : ◌≡◌ {A = Bool} true false = sym (ap (same a) (sym q) ∙ same_refl a) ∙ e in
-    let n : ◌≡◌ {A = ℕ} 0 1 = cc in
-    omega arith
+differ a b e q = cc (same_refl a, e, q)
 
 slot_from_law : (k s : ℕ) (o n : List ℕ) (f : Finding) → Memᴰ (line k s f) (slot_lines k s o n) → Gives k o n f
 unfolding slot_lines shared_lines

@@ -8,15 +8,16 @@ use native.Mathlib.Decide.{dec_lt}
 use native.Mathlib.Nat.{sub-zero}
 use native.Mathlib.Omega.{arith}
 use borrow.Author.Tests.{eq-eqb, ne_eqb, lt-ltb, le-ltb}
-use lib.ListN.{length, get_or, take, drop, length-drop, get_or-eq_default}
-use lib.Seq.{drop-drop}
+use Rattle.std.proofs.Common.{◌==◌, ◌⊎◌, inl, inr}
+use Rattle.std.proofs.Math.Dec.{eqb-suc-zero}
+use lib.ListN.{length, get_or, drop, length-drop, get_or-eq_default}
 use Rattle.compare.specs.Same.{same}
 use Rattle.buffer.specs.declared.Verdict.TheVariants.{Accepted}
 use Rattle.kinds.specs.Table.{Kind}
 use Rattle.kinds.proofs.Rows.{past}
-use Rattle.records.specs.Sections.{sections, most_of, record_size, slot_of, label_of}
+use Rattle.records.specs.Sections.{sections, most_of, label_of}
 use Rattle.records.specs.Records.{records_in, find, front, after}
-use Rattle.records.proofs.Records.{records_cons, records_none, cursor_next}
+use Rattle.records.proofs.Records.{records_none, cursor_next}
 use Rattle.sheet.specs.Reading.{verdict}
 use Rattle.sheet.specs.Parts.{judged_of}
 use Rattle.sheet.specs.Parsed.{Ordered, parse}
@@ -35,60 +36,52 @@ use Rattle.findings.specs.Walk.{part_by, record_by, change_lines, left_lines, wa
 
 -- ---- what a slot has left, as the code tests it: an empty part stands for a sheet without that slot
 
+-- no bytes of a record, as the code tests it
+abbrev pub Missing : List ℕ → Bool → Type 0
+Missing part missing = missing ≡ (length part == 0)
+
 module _ (named : Bool) (k slot : ℕ) where
-  pub left_none : (old new : List ℕ) → length old ≡ 0 → length new ≡ 0 → left_lines named k slot old new ≡ []
+  pub left_none : (old new : List ℕ) → Missing old true → Missing new true → left_lines named k slot old new ≡ []
   unfolding left_lines slot_lines
-  left_none [] [] e f = by_name named
-    where
-      by_name : (b : Bool) → left_lines b k slot [] [] ≡ []
-      by_name true = refl
-      by_name false = refl
-  left_none [] (y ∷ new) e f = absurd (omega arith)
-  left_none (x ∷ old) new e f = absurd (omega arith)
+  left_none [] [] e f = elim named as (λ b. left_lines b k slot [] [] ≡ []) [ true ↦ refl | false ↦ refl ]
+  left_none [] (y ∷ new) e f = cc (eqb-suc-zero (length new))
+  left_none (x ∷ old) new e f = cc (eqb-suc-zero (length old))
 
-  pub left_new : (old new : List ℕ) → length old ≡ 0 → (length new ≡ 0 → ⊥) → left_lines named k slot old new ≡ line k slot New ∷ []
+  pub left_new : (old new : List ℕ) → Missing old true → Missing new false → left_lines named k slot old new ≡ line k slot New ∷ []
   unfolding left_lines slot_lines
-  left_new [] [] e n = absurd (n refl)
-  left_new [] (y ∷ new) e n = by_name named
-    where
-      by_name : (b : Bool) → left_lines b k slot [] (y ∷ new) ≡ line k slot New ∷ []
-      by_name true = refl
-      by_name false = refl
-  left_new (x ∷ old) new e n = absurd (omega arith)
+  left_new [] [] e f = cc
+  left_new [] (y ∷ new) e f = elim named as (λ b. left_lines b k slot [] (y ∷ new) ≡ line k slot New ∷ []) [ true ↦ refl | false ↦ refl ]
+  left_new (x ∷ old) new e f = cc (eqb-suc-zero (length old))
 
-  pub left_gone : (old new : List ℕ) → (length old ≡ 0 → ⊥) → length new ≡ 0 → left_lines named k slot old new ≡ line k slot Gone ∷ []
+  pub left_gone : (old new : List ℕ) → Missing old false → Missing new true → left_lines named k slot old new ≡ line k slot Gone ∷ []
   unfolding left_lines slot_lines
-  left_gone [] new n e = absurd (n refl)
-  left_gone (x ∷ old) [] n e = by_name named
-    where
-      by_name : (b : Bool) → left_lines b k slot (x ∷ old) [] ≡ line k slot Gone ∷ []
-      by_name true = refl
-      by_name false = refl
-  left_gone (x ∷ old) (y ∷ new) n e = absurd (omega arith)
+  left_gone [] new e f = cc
+  left_gone (x ∷ old) [] e f = elim named as (λ b. left_lines b k slot (x ∷ old) [] ≡ line k slot Gone ∷ []) [ true ↦ refl | false ↦ refl ]
+  left_gone (x ∷ old) (y ∷ new) e f = cc (eqb-suc-zero (length new))
 
 module _ (k slot : ℕ) where
-  left_named : (old new : List ℕ) → (length old ≡ 0 → ⊥) → (length new ≡ 0 → ⊥) → left_lines true k slot old new ≡ change_lines k slot old new
+  left_named : (old new : List ℕ) → Missing old false → Missing new false → left_lines true k slot old new ≡ change_lines k slot old new
   unfolding left_lines
-  left_named [] new n m = absurd (n refl)
-  left_named (x ∷ old) [] n m = absurd (m refl)
-  left_named (x ∷ old) (y ∷ new) n m = refl
+  left_named [] new e f = cc
+  left_named (x ∷ old) [] e f = cc
+  left_named (x ∷ old) (y ∷ new) e f = refl
 
-  left_shared : (old new : List ℕ) → (length old ≡ 0 → ⊥) → (length new ≡ 0 → ⊥)
+  left_shared : (old new : List ℕ) → Missing old false → Missing new false
       → left_lines false k slot old new ≡ unless_same (label_of old) (label_of new) (line k slot Name) ++ change_lines k slot old new
   unfolding left_lines slot_lines shared_lines
-  left_shared [] new n m = absurd (n refl)
-  left_shared (x ∷ old) [] n m = absurd (m refl)
-  left_shared (x ∷ old) (y ∷ new) n m = refl
+  left_shared [] new e f = cc
+  left_shared (x ∷ old) [] e f = cc
+  left_shared (x ∷ old) (y ∷ new) e f = refl
 
-  module _ (old new : List ℕ) (n : length old ≡ 0 → ⊥) (m : length new ≡ 0 → ⊥) where
-    pub left_past : (named : Bool) → (named || same (label_of old) (label_of new)) ≡ true → left_lines named k slot old new ≡ change_lines k slot old new
+  module _ (old new : List ℕ) (n : Missing old false) (m : Missing new false) where
+    pub left_past : (named : Bool) → true ≡ (named || same (label_of old) (label_of new)) → left_lines named k slot old new ≡ change_lines k slot old new
     left_past true e = left_named old new n m
-    left_past false e = left_shared old new n m ∙ rw e
+    left_past false e = left_shared old new n m ∙ rw (sym e)
 
-    pub left_label : (named : Bool) → (named || same (label_of old) (label_of new)) ≡ false
+    pub left_label : (named : Bool) → false ≡ (named || same (label_of old) (label_of new))
         → left_lines named k slot old new ≡ line k slot Name ∷ left_lines true k slot old new
-    left_label true e = let z : ◌≡◌ {A = ℕ} 0 1 = cc in absurd (omega arith)
-    left_label false e = left_shared old new n m ∙ rw (e, left_named old new n m)
+    left_label true e = cc
+    left_label false e = left_shared old new n m ∙ rw (sym e, left_named old new n m)
 
 -- ---- a step within a section
 
@@ -132,19 +125,20 @@ module _ (old new : List ℕ) (c : Cursor) (k : ℕ) (e : c.section ≡ k) (a b 
       here old new c a b (rw e h) (rw e ea) (rw e eb)
       ∙ ap (λ (ls : List Line). ls ++ rest) (ap (λ (j : ℕ). left_lines c.named j c.slot a b) e ∙ met)
 
-  pub met_nothing : m ≡ Met.Nothing → part_lines old new c ≡ rest
-  met_nothing n = all ∙ ap (λ (x : Met). met_lines k c.slot a b x ++ rest) n
+  pub met_nothing : m ≡ Met.Nothing → (d : Cursor) → d ≡ cursor_behind c (length a) (length b) → part_lines old new c ≡ part_lines old new d
+  met_nothing n d q = all ∙ ap (λ (x : Met). met_lines k c.slot a b x ++ rest) n ∙ ap (part_lines old new) (sym q)
 
-  pub met_label : m ≡ Met.Label → part_lines old new c ≡ line k c.slot Name ∷ part_lines old new (cursor_named c)
-  met_label n =
+  pub met_label : m ≡ Met.Label → (l : Line) → l ≡ line k c.slot Name → (d : Cursor) → d ≡ cursor_named c → part_lines old new c ≡ l ∷ part_lines old new d
+  met_label n l p d q =
       let left = behind_name old new c a b (rw e h) (rw e ea) (rw e eb)
       ∙ ap (λ (j : ℕ). left_lines true j c.slot a b ++ rest) e in
-      all ∙ ap (λ (x : Met). met_lines k c.slot a b x ++ rest) n ∙ ap (λ (ls : List Line). line k c.slot Name ∷ ls) (sym left)
+      all ∙ ap (λ (x : Met). met_lines k c.slot a b x ++ rest) n
+      ∙ ap₂ (λ (x : Line) (ls : List Line). x ∷ ls) (sym p) (sym left ∙ ap (part_lines old new) (sym q))
 
-  pub met_last : (f : Finding) → m ≡ Met.Last f → (d : Cursor) → d ≡ cursor_behind c (length a) (length b)
-      → part_lines old new c ≡ line k c.slot f ∷ part_lines old new d
-  met_last f n d q =
-      all ∙ ap (λ (x : Met). met_lines k c.slot a b x ++ rest) n ∙ ap (λ (x : Cursor). line k c.slot f ∷ part_lines old new x) (sym q)
+  pub met_last : (f : Finding) → m ≡ Met.Last f → (l : Line) → l ≡ line k c.slot f → (d : Cursor) → d ≡ cursor_behind c (length a) (length b)
+      → part_lines old new c ≡ l ∷ part_lines old new d
+  met_last f n l p d q =
+      all ∙ ap (λ (x : Met). met_lines k c.slot a b x ++ rest) n ∙ ap₂ (λ (x : Line) (ls : List Line). x ∷ ls) (sym p) (ap (part_lines old new) (sym q))
 
 -- a cursor stays a number of 64 bits: the record at it lies within the part
 pub cursor_small : (k slot at : ℕ) (part a : List ℕ) → at < 2 ^ 64 → length part < 2 ^ 64 → a ≡ front slot (records_in k (drop at part))
@@ -173,13 +167,11 @@ module _ (old new : List ℕ) (olds news : Judged) where
             rw (e, f, no_lines (part_by k old olds) (part_by k new news) (cursor_at k) (omega arith))
       ]
 
-  pub lines_old : (c : Cursor) → (olds.refusal ≡ 0 → ⊥) → lines_at old new olds news c ≡ []
+  -- of a refused sheet
+  pub lines_refused : (c : Cursor) → (olds.refusal ≡ 0 → ⊥) ⊎ ((olds.refusal ≡ 0) × (news.refusal ≡ 0 → ⊥)) → lines_at old new olds news c ≡ []
   unfolding lines_at
-  lines_old c n = rw (ne_eqb olds.refusal 0 n)
-
-  pub lines_new : (c : Cursor) → olds.refusal ≡ 0 → (news.refusal ≡ 0 → ⊥) → lines_at old new olds news c ≡ []
-  unfolding lines_at
-  lines_new c e n = rw (eq-eqb olds.refusal 0 e, ne_eqb news.refusal 0 n)
+  lines_refused c (inl n) = rw (ne_eqb olds.refusal 0 n)
+  lines_refused c (inr (e, n)) = rw (eq-eqb olds.refusal 0 e, ne_eqb news.refusal 0 n)
 
   module _ (e : olds.refusal ≡ 0) (f : news.refusal ≡ 0) where
     abbrev lines : Cursor → List Line
@@ -198,17 +190,25 @@ module _ (old new : List ℕ) (olds news : Judged) where
         let z : sections - (c.section + 1) ≡ 0 = omega arith in
         lines_on c ∙ rw (no_lines (part_by c.section old olds) (part_by c.section new news) c h, z)
 
-    -- the section has no line left
-    pub lines_turn : (c : Cursor) → within c ≡ [] → lines c ≡ lines (cursor_at (c.section + 1))
-    lines_turn c n = lines_on c ∙ rw n (sections_on (c.section + 1) ∙ sym (lines_on (cursor_at (c.section + 1))))
+    -- from a cursor in section k on, whose parts are these
+    module _ (k : ℕ) (a b : List ℕ) (ea : a ≡ part_by k old olds) (eb : b ≡ part_by k new news) where
+      abbrev behind : List Line
+      behind = walk_sections (sections - (k + 1)) (k + 1) old new olds news
 
-    -- it has one
-    pub lines_found : (c d : Cursor) (l : Line) → d.section ≡ c.section
-        → within c ≡ l ∷ part_lines (part_by c.section old olds) (part_by c.section new news) d → lines c ≡ l ∷ lines d
-    lines_found c d l s n =
-        let there = lines_on d
-        ∙ ap (λ (k : ℕ). part_lines (part_by k old olds) (part_by k new news) d ++ walk_sections (sections - (k + 1)) (k + 1) old new olds news) s in
-        lines_on c ∙ rw n (ap (λ (ls : List Line). l ∷ ls) (sym there))
+      lines_by : (c : Cursor) → c.section ≡ k → lines c ≡ part_lines a b c ++ behind
+      lines_by c s =
+          lines_on c ∙ ap (λ (j : ℕ). part_lines (part_by j old olds) (part_by j new news) c ++ walk_sections (sections - (j + 1)) (j + 1) old new olds news) s
+          ∙ rw (← ea, ← eb)
+
+      module _ (c : Cursor) (s : c.section ≡ k) where
+        -- the section has no line left
+        pub lines_turn : part_lines a b c ≡ [] → (d : Cursor) → d ≡ cursor_at (k + 1) → lines c ≡ lines d
+        lines_turn n d q =
+            lines_by c s ∙ ap (λ (ls : List Line). ls ++ behind) n ∙ sections_on (k + 1) ∙ sym (lines_on (cursor_at (k + 1))) ∙ ap lines (sym q)
+
+        -- it has one
+        pub lines_found : (d : Cursor) (l : Line) → d.section ≡ c.section → part_lines a b c ≡ l ∷ part_lines a b d → lines c ≡ l ∷ lines d
+        lines_found d l t n = lines_by c s ∙ ap (λ (ls : List Line). ls ++ behind) n ∙ ap (λ (ls : List Line). l ∷ ls) (sym (lines_by d (t ∙ s)))
 
 -- ---- from the start on
 
@@ -263,44 +263,25 @@ from_start old new a b =
     ∙ sym (sections_on old new (judged_of old) (judged_of new) 0)
     ∙ all_lines old new a b sections 0 (omega arith)
 
--- the record by where the sections lie, in a section that sheets have, is the sheet's record with the slot
+-- the record by where the sections lie is found in the part, which is empty in a section that no sheet has; of an
+-- accepted sheet it is the sheet's record with the slot
 module _ (k slot : ℕ) (s : List ℕ) (judged : Judged) where
-  pub some_record : k < sections → record_by k slot s judged ≡ find slot (records_in k (part_by k s judged))
-  some_record h = rw (lt-ltb k sections h)
-
-  pub no_record : sections ≤ k → record_by k slot s judged ≡ []
-  no_record h = rw (le-ltb k sections h)
+  pub record_of_part : length judged.sizes ≡ sections → find slot (records_in k (part_by k s judged)) ≡ record_by k slot s judged
+  unfolding find
+  record_of_part l =
+      elim (dec_lt k sections) [
+        | yes h ↦ rw (lt-ltb k sections h)
+        | no h ↦
+            let none : get_or judged.sizes k 0 ≡ 0 = get_or-eq_default judged.sizes 0 {n = k} (omega arith) in
+            rw (le-ltb k sections (omega arith), none, records_none k [] (omega arith))
+      ]
 
   pub record_by_law : IsRecordWith k slot s judged (record_by k slot s judged)
   unfolding find
   record_by_law a e =
       elim (dec_lt k sections) [
-        | yes h ↦ some_record h ∙ ap (find slot) (part_records s judged k _ h (record { accepted = a; laid = e; is = refl }))
+        | yes h ↦ rw (lt-ltb k sections h) (ap (find slot) (part_records s judged k _ h (record { accepted = a; laid = e; is = refl })))
         | no h ↦
             let none : get_or (parse s) k [] ≡ [] = get_or-eq_default (parse s) [] {n = k} (rw (accepted_wellformed s a).all (omega arith)) in
-            no_record (omega arith) ∙ sym (ap (find slot) none)
+            rw (le-ltb k sections (omega arith)) (sym (ap (find slot) none))
       ]
-
--- ---- a record found one after the other: the first of a part, or one behind it, or none
-
-module _ (k at slot : ℕ) (part : List ℕ) where
-  abbrev first : List ℕ
-  first = take (at + record_size k - at) (drop at part)
-
-  module _ (h : record_size k ≤ length part - at) where
-    cons : records_in k (drop at part) ≡ first ∷ records_in k (drop (at + record_size k) part)
-    cons =
-        let e : at + record_size k - at ≡ record_size k = omega arith in
-        rw (e, ← drop-drop (record_size k) at part) (records_cons k (drop at part) (rw length-drop h))
-
-    pub find_here : slot_of first ≡ slot → find slot (records_in k (drop at part)) ≡ first
-    unfolding find
-    find_here e = rw (cons, eq-eqb _ _ e)
-
-    pub find_on : (slot_of first ≡ slot → ⊥) → find slot (records_in k (drop (at + record_size k) part)) ≡ find slot (records_in k (drop at part))
-    unfolding find
-    find_on n = sym (rw (cons, ne_eqb _ _ n))
-
-  pub find_end : length part - at < record_size k → find slot (records_in k (drop at part)) ≡ []
-  unfolding find
-  find_end h = rw (records_none k (drop at part) (rw length-drop h))

@@ -1,6 +1,6 @@
 -- The lines of a notice one by one, from a cursor on: computed, by one walk over both sheets' records.
 -- Theorem from_start (proofs/Walking) has it that from the start on they are the notice's.
-use Rattle.std.specs.Prelude.{ℕ, zero, suc, ◌+◌, ◌-◌, ◌≡◌, Bool, true, false, cond, ◌&&◌, List, [], ◌∷◌, ◌++◌, eqb, ltb, get_or, take, drop}
+use Rattle.std.specs.Prelude.{ℕ, zero, suc, ◌+◌, ◌-◌, ◌≡◌, Bool, true, false, cond, ◌&&◌, List, [], ◌∷◌, ◌++◌, eqb, ltb, get_or, take, drop, Option, None, Some}
 use Rattle.buffer.specs.declared.Verdict.TheVariants.{Accepted}
 use Rattle.kinds.specs.Table.{telling_of}
 use Rattle.records.specs.Sections.{sections, most_of, description_of}
@@ -14,8 +14,6 @@ use Rattle.findings.specs.declared.Finding.TheVariants.{Name, Changed}
 use Rattle.findings.specs.declared.Line.{Line}
 use Rattle.findings.specs.declared.meet.Met as met
 use Rattle.findings.specs.declared.meet.Met.TheVariants as Met
-use Rattle.findings.specs.declared.Step as step
-use Rattle.findings.specs.declared.Step.TheVariants as Step
 use Rattle.findings.specs.Findings.{line, unless_same, slot_lines, notice_lines}
 
 -- the part of section k, cut out of a sheet by where its sections lie [S14, B4]
@@ -84,14 +82,14 @@ met_lines k slot old new Met.Label = line k slot Name ∷ left_lines true k slot
 met_lines k slot old new (Met.Last finding) = line k slot finding ∷ []
 
 -- the lines from a cursor on, by the step that was made there: none, or a line and those from the next cursor on [N2]
-abbrev pub step_lines : (Cursor → List Line) → step.Step → List Line
-step_lines from Step.End = []
-step_lines from (Step.Found l next) = l ∷ from next
+abbrev pub step_lines : (Cursor → List Line) → Option (Line × Cursor) → List Line
+step_lines from None = []
+step_lines from (Some step) = step.0 ∷ from step.1
 
 -- the cursor behind a line is in the section in which the walk stands [N2]
-abbrev pub InSection : ℕ → step.Step → Type 0
-InSection k Step.End = Unit
-InSection k (Step.Found l next) = next.section ≡ k
+abbrev pub InSection : ℕ → Option (Line × Cursor) → Type 0
+InSection k None = Unit
+InSection k (Some step) = step.1.section ≡ k
 
 -- from this cursor on two accepted sheets, judged, have the lines of their notice [N1, N2]
 abbrev pub StartsAll : Cursor → Type 0

@@ -1,5 +1,5 @@
 // What a notice says of two set-up sheets, old and new: its lines one by one, without their text.
-// Promises: over any bytes, the first line at or behind a cursor and the cursor behind it; from the start on, all lines; a record by its slot.
+// Promises: over any bytes, the first line at or behind a cursor and the cursor behind it; from the start on, all lines; a section's part and its record with a slot.
 // Rests on: kinds (what is found of two descriptions), sheet (sections), records, compare (parts that differ), peek (parts of lent bytes).
 #![tactic(auto)]
 
@@ -8,7 +8,7 @@ mod record;
 mod walk;
 
 use lut::Telling;
-pub use record::record_of;
+pub use record::{part_by, record_of};
 pub use walk::{at_section, next_line, start, step_in};
 
 // What a line says of a slot.
@@ -39,13 +39,4 @@ pub struct Cursor {
     // How many bytes of the section's records lie behind, in the old sheet and in the new one.
     pub old: usize,
     pub new: usize,
-}
-
-// What the call `next_line` answers.
-#[derive(Clone, Copy)]
-pub enum Step {
-    // No line is left.
-    End,
-    // A line, and the cursor behind it.
-    Found(Line, Cursor),
 }

@@ -30,27 +30,18 @@ fn meet_change(section: usize, old: &[u8], new: &[u8]) -> Met
 fn is_past_name(named: bool, old: &[u8], new: &[u8]) -> bool
     ensures { result ≡ (named || same (label_of old.now) (label_of new.now)) }
 {
-    if named {
-        return true;
-    }
-    compare::same_bytes(records::label(old), records::label(new))
+    named || compare::same_bytes(records::label(old), records::label(new))
 }
 
 // Of a slot. An empty part stands for a sheet that has no such slot; `named`: its line NAME has been given.
 pub(crate) fn meet(section: usize, named: bool, old: &[u8], new: &[u8]) -> Met
     ensures { (slot : ℕ) → left_lines named section slot old.now new.now ≡ met_lines section slot old.now new.now result }
 {
-    if old.len() == 0 {
-        if new.len() == 0 {
-            return Met::Nothing;
-        }
-        return Met::Last(Finding::New);
+    match (old.is_empty(), new.is_empty()) {
+        (true, true) => Met::Nothing,
+        (true, false) => Met::Last(Finding::New),
+        (false, true) => Met::Last(Finding::Gone),
+        _ if is_past_name(named, old, new) => meet_change(section, old, new),
+        _ => Met::Label,
     }
-    if new.len() == 0 {
-        return Met::Last(Finding::Gone);
-    }
-    if is_past_name(named, old, new) {
-        return meet_change(section, old, new);
-    }
-    Met::Label
 }

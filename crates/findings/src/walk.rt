@@ -3,7 +3,8 @@ ghost use Rattle.std.specs.Prelude.{◌≡◌, ◌+◌, ◌^◌, ◌<◌};
 ghost use Rattle.findings.specs.Walk.{cursor_behind, cursor_named, cursor_at, part_lines, lines_at, step_lines, InSection, StartsAll};
 
 use crate::meet::{Met, meet};
-use crate::{Cursor, Finding, Line, Step};
+use crate::record::part_by;
+use crate::{Cursor, Finding, Line};
 use kinds::SECTIONS;
 use sheet::Judged;
 
@@ -48,75 +49,59 @@ fn behind(at: Cursor, old: usize, new: usize) -> Cursor
 fn named(at: Cursor) -> Cursor
     ensures { result ≡ cursor_named at }
 {
-    Cursor {
-        section: at.section,
-        slot: at.slot,
-        named: true,
-        old: at.old,
-        new: at.new,
-    }
+    Cursor { named: true, ..at }
 }
 
-// The first line at or behind a cursor within its section, of the section's two parts.
-pub fn step_in(old: &[u8], new: &[u8], from: Cursor) -> Step
+// The first line at or behind a cursor within its section, of the section's two parts, and the cursor behind that line.
+pub fn step_in(old: &[u8], new: &[u8], from: Cursor) -> Option<(Line, Cursor)>
     ensures in_section { InSection from.section result }
     ensures from_value { part_lines old.now new.now from ≡ step_lines (part_lines old.now new.now) result }
 {
     let section = from.section;
     let most = records::most(section);
     let mut at = from;
+    // Not a `for` over the slots: the cursor counts them, and its record offsets move by steps of differing size.
     while at.slot < most {
         let slot = at.slot as u8;
+        let line = |finding| Line {
+            section,
+            slot,
+            finding,
+        };
         let a = records::record_with(old, section, at.old, slot);
         let b = records::record_with(new, section, at.new, slot);
+        let next = behind(at, a.len(), b.len());
         match meet(section, at.named, a, b) {
-            Met::Nothing => {}
-            Met::Label => {
-                let finding = Finding::Name;
-                let line = Line {
-                    section,
-                    slot,
-                    finding,
-                };
-                return Step::Found(line, named(at));
-            }
-            Met::Last(finding) => {
-                let line = Line {
-                    section,
-                    slot,
-                    finding,
-                };
-                return Step::Found(line, behind(at, a.len(), b.len()));
-            }
+            Met::Nothing => at = next,
+            Met::Label => return Some((line(Finding::Name), named(at))),
+            Met::Last(finding) => return Some((line(finding), next)),
         }
-        at = behind(at, a.len(), b.len());
     }
-    Step::End
+    None
 }
 
 // The first line at or behind a cursor, and the cursor behind that line, by where the sections of the two sheets lie. A
 // refused sheet has none.
-pub fn next_line(old: &[u8], new: &[u8], olds: Judged, news: Judged, from: Cursor) -> Step
+pub fn next_line(
+    old: &[u8],
+    new: &[u8],
+    olds: Judged,
+    news: Judged,
+    from: Cursor,
+) -> Option<(Line, Cursor)>
     ensures { lines_at old.now new.now olds news from ≡ step_lines (lines_at old.now new.now olds news) result }
 {
-    if olds.refusal != 0 {
-        return Step::End;
-    }
-    if news.refusal != 0 {
-        return Step::End;
+    if olds.refusal != 0 || news.refusal != 0 {
+        return None;
     }
     let mut at = from;
-    while at.section < SECTIONS {
-        let section = at.section;
-        let a = peek::prefix(peek::suffix(old, olds.starts[section]), olds.sizes[section]);
-        let b = peek::prefix(peek::suffix(new, news.starts[section]), news.sizes[section]);
-        match step_in(a, b, at) {
-            Step::Found(line, next) => {
-                return Step::Found(line, next);
-            }
-            Step::End => {}
+    for section in from.section..SECTIONS {
+        let a = part_by(old, &olds, section);
+        let b = part_by(new, &news, section);
+        if let Some(step) = step_in(a, b, at) {
+            return Some(step);
         }
         at = at_section(section + 1);
     }
-    Step::End
+    None
 }

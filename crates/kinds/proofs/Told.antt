@@ -1,7 +1,5 @@
 -- What is answered of two descriptions of any section says what it should, in the contract's words. Assumes nothing.
-use Prim.Native.Nat.{ℕ}
-use mathlib.Core.List.{List}
-use mathlib.Core.Path.{◌≡◌, sym, subst}
+use Rattle.std.proofs.Common.{◌≡◌, ℕ, List, get_or, Fits, w8, sym, subst, arith}
 use Rattle.lut.specs.Telling.{Says}
 use Rattle.lut.specs.declared.Telling.{Telling}
 use Rattle.peek.specs.Bytes.{Bytes}
@@ -23,7 +21,9 @@ changed k d e bd be c =
     }
 
 -- an answer that is the definition's has its meaning [D3.5, D3.6]
-pub told : (k : ℕ) (d e : List ℕ) (r : Telling) → Bytes d → Bytes e → r ≡ telling_of k d e
-    → (r ≡ telling_of k d e) × (Differ k d e → Says (shows_of k d) (shows_of k e) r)
-told k d e r bd be q =
-    (q, λ c. subst (Says (shows_of k d) (shows_of k e)) (sym q) (telling_says k c.known d e (changed k d e bd be c)))
+pub told : (k : ℕ) (d e : List ℕ) (r : Telling) → ((i : ℕ) → Fits w8 (get_or d i 0)) → ((i : ℕ) → Fits w8 (get_or e i 0)) → r ≡ telling_of k d e
+    → Differ k d e → Says (shows_of k d) (shows_of k e) r
+told k d e r fd fe q c =
+    let bd : Bytes d = λ i. omega (arith, fd i) in
+    let be : Bytes e = λ i. omega (arith, fe i) in
+    subst (Says (shows_of k d) (shows_of k e)) (sym q) (telling_says k c.known d e (changed k d e bd be c))

@@ -12,6 +12,7 @@ const NOWHERE: Place = Place {
 
 // The section and the slot that an address starts. A range's upper chain has no slot of its own, and a sum has no part
 // 3.
+#[tactic(auto, using(crate::proofs::Places::starts_none))]
 pub fn place_at(address: u32) -> Place
     ensures { (result.section ≡ section_at address) × (result.slot ≡ slot_at (section_at address) address) }
 {

@@ -1,4 +1,6 @@
 // What each kind says of its descriptions.
+#![tactic(auto, using(crate::proofs::Rows::past), unfolding(crate::specs::Table::kind_of, crate::specs::Table::description_fault, crate::specs::Table::words_of, crate::specs::Table::description_read, crate::specs::Table::telling_of, term::specs::Description::fault))]
+
 ghost use Rattle.std.specs.Prelude.{◌≡◌};
 ghost use Rattle.buffer.specs.Room.{bytes, Delivered};
 ghost use Rattle.lut.specs.Telling.{Says};

@@ -1,4 +1,6 @@
 // The numbers of each section: zeros for one that no sheet has.
+#![tactic(auto, using(crate::proofs::Rows::past), unfolding(crate::specs::Table::kind_of, crate::specs::Table::name_of, crate::specs::Table::letter_of, crate::specs::Table::most_of, crate::specs::Table::description_size, crate::specs::Table::chain_count, crate::specs::Table::chain_length, crate::specs::Table::entry_size, crate::specs::Table::missing_of, crate::specs::Table::most_words_from, crate::specs::Table::address_of))]
+
 ghost use Rattle.std.specs.Prelude.{◌≡◌};
 ghost use Rattle.kinds.specs.Table.{row_of, letter_of, chain_count, chain_length, most_words, address_of};
 
@@ -112,24 +114,21 @@ pub fn row_of(section: usize) -> Row
 pub fn letter(section: usize) -> u8
     ensures { result ≡ letter_of section }
 {
-    let row = row_of(section);
-    row.letter
+    row_of(section).letter
 }
 
 // How many chains an item has, at neighbouring addresses.
 pub fn chain_count(section: usize) -> usize
     ensures { result ≡ chain_count section }
 {
-    let row = row_of(section);
-    row.chains
+    row_of(section).chains
 }
 
 // How many words each of its chains has.
 pub fn chain_length(section: usize) -> usize
     ensures { result ≡ chain_length section }
 {
-    let row = row_of(section);
-    row.each
+    row_of(section).each
 }
 
 // The most words that a description of any section has.
@@ -144,11 +143,11 @@ pub fn address(section: usize, slot: u8) -> u32
     ensures { result ≡ address_of section slot }
 {
     match section {
-        TERMS => 0x20 + slot as u32,
-        RANGES => 0x30 + 2 * slot as u32,
-        EDGES => 0x34 + slot as u32,
+        TERMS => 0x20 + u32::from(slot),
+        RANGES => 0x30 + 2 * u32::from(slot),
+        EDGES => 0x34 + u32::from(slot),
         SUMS => sum::sum_address(slot),
-        STATES => slot as u32,
+        STATES => u32::from(slot),
         _ => 0,
     }
 }

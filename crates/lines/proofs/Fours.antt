@@ -35,19 +35,10 @@ lowering pairs first second =
 lowering_le : (pairs a b : ℕ) → bit_and (pairs / 4) a * 2 + bit_and (pairs / 4) b ≤ pairs
 lowering_le pairs a b = omega (arith, and_le_l (pairs / 4) a, and_le_l (pairs / 4) b)
 
-pub one_le : (pairs a : ℕ) → bit_and (pairs / 4) a * 2 ≤ pairs
-one_le pairs a = omega (arith, lowering_le pairs a 0)
-
-pub two_le : (pairs a b : ℕ) → bit_and (pairs / 4) b ≤ pairs - bit_and (pairs / 4) a * 2
-two_le pairs a b = omega (arith, lowering_le pairs a b)
-
 at_once : (a b c : ℕ) → a - b - c ≡ a - (b + c)
 at_once a b c = omega arith
 
--- a one in each nibble is a small word, of two such words both or either
-pub both_le : (x y : ℕ) → bit_and (bit_and x 0x11111111) (bit_and y 0x11111111) ≤ 0x11111111
-both_le x y = omega (arith, and_le_l (bit_and x 0x11111111) (bit_and y 0x11111111), and_le_r x 0x11111111)
-
+-- ones of two words, one in each nibble
 pub either_lt : (x y : ℕ) → bit_or (bit_and x 0x11111111) (bit_and y 0x11111111) < 2 ^ 29
 either_lt x y =
     or_lt 29 (bit_and x 0x11111111) (bit_and y 0x11111111) (omega (arith, and_le_r x 0x11111111)) (omega (arith, and_le_r y 0x11111111))

@@ -4,10 +4,12 @@ pub mod Digit
 pub mod Over
 pub mod Ones
 pub mod Gathering
+pub mod Packing
 pub mod Nibble
 pub mod Fours
 pub mod Unmasked
 pub mod Scattering
 pub mod Drop
+pub mod Spreading
 pub mod Flip
 pub mod Fill

@@ -105,7 +105,7 @@ nibble_not i x fits h =
 abbrev pub closing : ℕ → ℕ → ℕ
 closing x holes = x - bit_and (x / 2) holes
 
-pub closing_le : (x holes : ℕ) → bit_and (x / 2) holes ≤ x
+closing_le : (x holes : ℕ) → bit_and (x / 2) holes ≤ x
 closing_le x holes = omega (arith, and_le_l (x / 2) holes)
 
 pub nibble_closing : (i x holes : ℕ) → ((j : ℕ) → j ≤ i → nibble j holes < 8)

@@ -16,9 +16,6 @@ use Rattle.lines.proofs.Ones.{ones_in_le, ones_cut, ones_split}
 abbrev pub counting : ℕ → ℕ → ℕ
 counting threes pairs = bit_and pairs threes + bit_and (pairs / 4) threes
 
-pub counting_le : (pairs : ℕ) → counting 0x03030303 pairs ≤ 0x06060606
-counting_le pairs = omega (arith, and_le_r pairs 0x03030303, and_le_r (pairs / 4) 0x03030303)
-
 counted_four : (m : ℕ) → m < 16 → counting 3 (closing (15 - m) 5) ≡ 4 - ones_in 4 m
 unfolding ones_in
 counted_four m h =

@@ -29,9 +29,7 @@ pub fn gather(sample: u32, mask: u32) -> u32
     let gaps = unmasked_in_bytes(mask);
     let nibbles = packed_nibbles(sample, mask);
     let mut packed: u32 = 0;
-    let mut i: u32 = 4;
-    while 0 < i {
-        i -= 1;
+    for i in (0..4u32).rev() {
         let at = 8 * i;
         let low = nibbles & (15 << at);
         let high = (nibbles & (0xf0 << at)) >> ((lower >> at) & 15);
@@ -49,8 +47,8 @@ pub fn scatter(value: u32, mask: u32) -> u32
     let mut rest = value;
     let mut left = mask;
     while 0 < left {
-        spread += (rest & 1) << u32::trailing_zeros(left);
-        rest = rest >> 1;
+        spread += (rest & 1) << left.trailing_zeros();
+        rest >>= 1;
         left = drop_lowest(left);
     }
     spread
@@ -71,8 +69,8 @@ pub fn rank(mask: u32, i: u32) -> u32
     ensures { result ≡ ones_in i mask }
 {
     if i < 32 {
-        u32::count_ones(mask % (1u32 << i))
+        (mask % (1 << i)).count_ones()
     } else {
-        u32::count_ones(mask)
+        mask.count_ones()
     }
 }

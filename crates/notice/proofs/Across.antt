@@ -14,9 +14,8 @@ use Rattle.sheet.specs.Parts.{judged_of}
 use Rattle.sheet.specs.declared.Judged.{Judged}
 use Rattle.findings.specs.declared.Cursor.{Cursor}
 use Rattle.findings.specs.declared.Line.{Line}
-use Rattle.findings.specs.declared.Step.{Step}
 use Rattle.findings.specs.Findings.{notice_lines}
-use Rattle.findings.specs.Walk.{part_by, part_lines, cursor_at, walk_sections, step_lines}
+use Rattle.findings.specs.Walk.{part_by, part_lines, cursor_at, walk_sections}
 use Rattle.findings.proofs.Walking.{sections_on, all_lines}
 use Rattle.notice.specs.Text.{render, render_all}
 use Rattle.notice.specs.Notice.{notice_text}
@@ -51,23 +50,17 @@ module _ (old new : List ℕ) (olds news : Judged) where
     unfolding walk_sections render_all
     going_end = stepping_end 0 text_on sections out₀ out at k g refl
 
--- ---- the text of the lines from a cursor on, one behind the other
+-- ---- the text of the lines from a cursor on, one behind the other, by the step that is made there
 
-module _ (lines : Cursor → List Line) (c : Cursor) (r : Step) (e : lines c ≡ step_lines lines r) where
-  pub text_end : r ≡ Step.End → render_all (lines c) ≡ []
+module _ (lines : Cursor → List Line) (c : Cursor) where
+  pub text_end : lines c ≡ [] → render_all (lines c) ≡ []
   unfolding render_all
-  text_end n = ap render_all (e ∙ ap (step_lines lines) n)
+  text_end n = ap render_all n
 
-  module _ (l : Line) (d : Cursor) (f : r ≡ Step.Found l d) where
-    found : lines c ≡ l ∷ lines d
-    found = e ∙ ap (step_lines lines) f
-
+  module _ (l : Line) (d : Cursor) (n : lines c ≡ l ∷ lines d) where
     pub text_found : render_all (lines c) ≡ render l ++ render_all (lines d)
     unfolding render_all
-    text_found = ap render_all found
-
-    pub fewer : length (lines d) < length (lines c)
-    fewer = rw found (omega arith)
+    text_found = ap render_all n
 
 -- of two accepted sheets, judged, the text of all sections is the notice's
 pub text_of_all : (old new : List ℕ) (olds news : Judged) → verdict old ≡ Accepted → olds ≡ judged_of old → verdict new ≡ Accepted → news ≡ judged_of new

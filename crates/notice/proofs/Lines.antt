@@ -1,16 +1,16 @@
 -- The text of lines: how lists of lines render, and how long the text of one is. Assumes nothing.
-use Prim.Native.Nat.{ℕ, zero, suc, ◌+◌, ◌-◌, ◌≤◌}
+use Prim.Native.Nat.{ℕ, zero, suc, ◌+◌, ◌-◌}
 use mathlib.Core.Path.{◌≡◌, refl, sym, ap, ◌∙◌}
 use mathlib.Core.List.{List, [], ◌∷◌, ◌++◌, append_assoc, append-nil}
 use native.Mathlib.Omega.{arith}
-use lib.ListN.{length, take, drop, length-append}
-use lib.Seq.{take_all}
-use Rattle.lut.specs.declared.Input.{Input}
-use Rattle.lut.specs.declared.Telling.TheVariants.{Apart}
+use Rattle.std.proofs.Common.{◌/◌, ◌%◌, ◌^◌, ◌<◌, set, add-one}
+use Rattle.std.proofs.lemmas.List.{drop-set}
+use Rattle.std.proofs.Math.Nat.{div-div-eq-div-mul, pow-suc}
+use lib.ListN.{length, drop, length-append}
 use Rattle.kinds.specs.Table.{name_of}
 use Rattle.kinds.proofs.Rows.{always}
 use Rattle.findings.specs.declared.Line.{Line}
-use Rattle.notice.specs.Text.{hex, slot_text, input_text, change_text, finding_text, render, render_all}
+use Rattle.notice.specs.Text.{hex_digit, hex, slot_text, finding_text, render, render_all}
 
 render_all_one : (l : Line) → render_all (l ∷ []) ≡ render l
 unfolding render_all
@@ -28,19 +28,18 @@ pub hex_length : (n x : ℕ) → length (hex n x) ≡ n
 hex_length zero x = refl
 hex_length (suc n) x = ap suc (hex_length n x)
 
--- fewer digits are the last ones
-hex_drop : (m n last x : ℕ) → n ≡ m + last → drop m (hex n x) ≡ hex last x
-hex_drop zero n last x e = let q : n ≡ last = omega arith in rw q
-hex_drop (suc m) zero last x e = absurd (omega arith)
-hex_drop (suc m) (suc n) last x e = hex_drop m n last x (omega arith)
+-- the next digit's number: one place more
+pub sixteenth : (x i : ℕ) → x / 16 ^ i / 16 ≡ x / 16 ^ (i + 1)
+sixteenth x i = rw (add-one i, pow-suc 16 i) (div-div-eq-div-mul x (16 ^ i) 16)
 
-pub hex_last : (n x : ℕ) → n ≤ 8 → take (8 - (8 - n)) (drop (8 - n) (hex 8 x)) ≡ hex n x
-hex_last n x h =
-    let d = hex_drop (8 - n) 8 n x (omega arith) in
-    ap (take (8 - (8 - n))) d ∙ take_all (8 - (8 - n)) (hex n x) (omega (arith, hex_length n x))
-
-pub altr_length : (i : Input) → length (change_text (Apart i)) ≡ 5 + length (input_text i)
-altr_length i = rw (length-append ((65 ∷ 76 ∷ 84 ∷ 82 ∷ []) ++ input_text i) (10 ∷ [])) (omega arith)
+-- the digits are written from the last one on: those behind a place are there, and then one more
+pub hex_more : (n i x : ℕ) (digits : List ℕ) → i < n → length digits ≡ n → drop (n - i) digits ≡ hex i x
+    → drop (n - (i + 1)) (set digits (n - 1 - i) (hex_digit (x / 16 ^ i % 16))) ≡ hex (i + 1) x
+hex_more n i x digits h l e =
+    let here : n - (i + 1) ≡ n - 1 - i = omega arith in
+    let behind : n - 1 - i + 1 ≡ n - i = omega arith in
+    let within : n - 1 - i < length digits = omega arith in
+    rw (here, drop-set digits (n - 1 - i) (hex_digit (x / 16 ^ i % 16)) within, behind, e, add-one i)
 
 pub name_length : (k : ℕ) → length (name_of k) ≡ 4
 unfolding name_of

@@ -39,6 +39,13 @@ answer_of (Refused number place) new text room = Old number place
 answer_of Accepted (Refused number place) text room = New number place
 answer_of Accepted Accepted text room = cond (leb (length text) room) (Done (length text)) (Short (length text))
 
+-- such a refusal of a sheet: the old one's, or the new one's where the old one is accepted [O4, A4]
+abbrev pub IsRefusal : (old new : Verdict) → Noticed → Type 0
+IsRefusal old new (Done length) = ⊥
+IsRefusal old new (Old number place) = old ≡ Refused number place
+IsRefusal old new (New number place) = (old ≡ Accepted) × (new ≡ Refused number place)
+IsRefusal old new (Short needed) = ⊥
+
 -- the room afterwards: the text at its start after a success, as it was after every refusal [A1, A2]
 abbrev pub left_by : Noticed → (text out : List ℕ) → List ℕ
 left_by (Done length) text out = fill text out

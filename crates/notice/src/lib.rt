@@ -1,16 +1,18 @@
 // The alteration notice as text: what changed between two set-up sheets, old and new, line by line.
-// Promises: over any bytes and any room, the rendered lines and their length, or a refusal that changes nothing; one line by itself.
+// Promises: over any bytes and any room, the rendered lines and their length, or a refusal that changes nothing; one line by itself; two sheets judged.
 // Rests on: findings (the lines one by one, handed on here), kinds (names), sheet (verdict, sections), records, buffer (lent room).
 #![tactic(auto)]
 
 mod put;
+mod sheets;
 mod single;
 mod text;
 
 ghost use Rattle.std.specs.Prelude.{◌≡◌, length};
 ghost use Rattle.notice.specs.Notice.{NoticeGiven, NoticeNumbered, longest_notice};
 
-pub use findings::{Cursor, Finding, Line, Step, next_line, record_of, start};
+pub use findings::{Cursor, Finding, Line, next_line, record_of, start};
+pub use sheets::Sheets;
 pub use single::put_line;
 
 // The most bytes that a notice has, the room in which it is built before its length is known: for each record a line NAME
@@ -46,16 +48,12 @@ pub fn notice(old: &[u8], new: &[u8], out: &mut [u8]) -> Noticed
     ensures notice_given { NoticeGiven old.now new.now out.old result out.new }
     ensures notice_numbered { NoticeNumbered old.now new.now (length out.old) result }
 {
-    let first = sheet::judge_parts(old);
-    if first.refusal != 0 {
-        return Noticed::Old(first.refusal, first.place);
-    }
-    let second = sheet::judge_parts(new);
-    if second.refusal != 0 {
-        return Noticed::New(second.refusal, second.place);
-    }
+    let sheets = match Sheets::judge(old, new) {
+        Ok(sheets) => sheets,
+        Err(refused) => return refused,
+    };
     let mut room = [0u8; LONGEST];
-    let n = put::put_sections(&mut room, old, new, first, second);
+    let n = put::put_sections(&mut room, &sheets);
     if out.len() < n {
         return Noticed::Short(n);
     }

@@ -1,14 +1,14 @@
 // The lines of a notice, written one behind the other into room that suffices.
 ghost use Rattle.std.specs.Prelude.{◌+◌, ◌≤◌, length};
 ghost use Rattle.buffer.specs.Room.{Wrote};
-ghost use Rattle.records.specs.Sections.{sections};
-ghost use Rattle.findings.specs.Walk.{cursor_at, part_lines, walk_sections};
+ghost use Rattle.findings.specs.Walk.{cursor_at, part_lines};
 ghost use Rattle.notice.specs.Text.{render_all};
+ghost use Rattle.notice.specs.Notice.{notice_text};
 
+use crate::Sheets;
 use crate::text::put_line;
-use findings::{Step, at_section, step_in};
+use findings::{at_section, part_by, step_in};
 use kinds::SECTIONS;
-use sheet::Judged;
 
 // Of a section, from its two parts.
 fn put_section(out: &mut [u8], from: usize, section: usize, old: &[u8], new: &[u8]) -> usize
@@ -17,37 +17,23 @@ fn put_section(out: &mut [u8], from: usize, section: usize, old: &[u8], new: &[u
 {
     let mut at = from;
     let mut here = at_section(section);
-    loop {
-        match step_in(old, new, here) {
-            Step::End => {
-                return at;
-            }
-            Step::Found(line, next) => {
-                at = put_line(out, at, line);
-                here = next;
-            }
-        }
+    while let Some((line, next)) = step_in(old, new, here) {
+        at = put_line(out, at, line);
+        here = next;
     }
+    at
 }
 
-// Of two sheets, by where their sections lie.
-pub(crate) fn put_sections(
-    out: &mut [u8],
-    old: &[u8],
-    new: &[u8],
-    olds: Judged,
-    news: Judged,
-) -> usize
-    requires { length (render_all (walk_sections sections 0 old.now new.now olds news)) ≤ length out.old }
-    ensures { Wrote 0 (render_all (walk_sections sections 0 old.now new.now olds news)) out.old out.new result }
+// Of two sheets.
+pub(crate) fn put_sections(out: &mut [u8], sheets: &Sheets) -> usize
+    requires { length (notice_text sheets.now.old.now sheets.now.new.now) ≤ length out.old }
+    ensures { Wrote 0 (notice_text sheets.now.old.now sheets.now.new.now) out.old out.new result }
 {
     let mut at: usize = 0;
-    let mut section: usize = 0;
-    while section < SECTIONS {
-        let a = peek::prefix(peek::suffix(old, olds.starts[section]), olds.sizes[section]);
-        let b = peek::prefix(peek::suffix(new, news.starts[section]), news.sizes[section]);
-        at = put_section(out, at, section, a, b);
-        section += 1;
+    for section in 0..SECTIONS {
+        let old = part_by(sheets.old, &sheets.olds, section);
+        let new = part_by(sheets.new, &sheets.news, section);
+        at = put_section(out, at, section, old, new);
     }
     at
 }

@@ -1,7 +1,7 @@
 // The text of a notice line, written into lent room from an index on. Each writer asks that its text fits.
-ghost use Rattle.std.specs.Prelude.{◌≡◌, ◌+◌, ◌≤◌, ◌<◌, length};
+ghost use Rattle.std.specs.Prelude.{◌≡◌, ◌+◌, ◌≤◌, ◌<◌, ◌∷◌, length};
 ghost use Rattle.buffer.specs.Room.{Wrote};
-ghost use Rattle.notice.specs.Text.{hex_digit, hex, number_text, slot_text, input_text, change_text, finding_text, render};
+ghost use Rattle.notice.specs.Text.{hex_digit, hex, slot_text, input_text, change_text, finding_text, render};
 
 use findings::{Finding, Line};
 use lut::{Input, Telling};
@@ -12,7 +12,8 @@ const SAMPLE_DIGITS: usize = 8;
 
 const SOURCES_DIGITS: usize = 4;
 
-// A text that fits, from `at` on; answers the index behind it.
+// A text that fits, from `at` on; answers the index behind it. It asks something of its caller, so it is private, and report
+// has one of its own.
 pub(crate) fn put(out: &mut [u8], at: usize, text: &[u8]) -> usize
     requires { at + length text.now ≤ length out.old }
     ensures { Wrote at text.now out.old out.new result }
@@ -20,50 +21,41 @@ pub(crate) fn put(out: &mut [u8], at: usize, text: &[u8]) -> usize
     buffer::put_at(out, at, text)
 }
 
-fn hex_digit(d: u32) -> u8
+fn hex_digit(d: u8) -> u8
     requires { d < 16 }
     ensures { result ≡ hex_digit d }
 {
-    if d < 10 {
-        (48 + d) as u8
-    } else {
-        (55 + d) as u8
+    if d < 10 { b'0' + d } else { b'A' + (d - 10) }
+}
+
+// The lowest hex digits, the highest of them first.
+fn hex<const DIGITS: usize>(x: u32) -> [u8; DIGITS]
+    ensures { result ≡ hex DIGITS x }
+{
+    let mut digits = [0; DIGITS];
+    let mut rest = x;
+    for i in 0..DIGITS {
+        digits[DIGITS - 1 - i] = hex_digit((rest % 16) as u8);
+        rest /= 16;
     }
+    digits
 }
 
-// Eight hex digits, the highest first.
-fn hex_digits(x: u32) -> [u8; 8]
-    ensures { result ≡ hex 8 x }
+// Digits behind a space.
+fn put_spaced(out: &mut [u8], at: usize, digits: &[u8]) -> usize
+    requires { at + (1 + length digits.now) ≤ length out.old }
+    ensures { Wrote at (32 ∷ digits.now) out.old out.new result }
 {
-    [
-        hex_digit(x / 0x1000_0000 % 16),
-        hex_digit(x / 0x100_0000 % 16),
-        hex_digit(x / 0x10_0000 % 16),
-        hex_digit(x / 0x1_0000 % 16),
-        hex_digit(x / 0x1000 % 16),
-        hex_digit(x / 0x100 % 16),
-        hex_digit(x / 0x10 % 16),
-        hex_digit(x / 1 % 16),
-    ]
-}
-
-// A space and the lowest hex digits, so many of the eight.
-fn put_number(out: &mut [u8], at: usize, digits: usize, x: u32) -> usize
-    requires digits_bound { digits ≤ 8 }
-    requires x_in_bounds { at + length (number_text digits x) ≤ length out.old }
-    ensures { Wrote at (number_text digits x) out.old out.new result }
-{
-    let all = hex_digits(x);
     let next = put(out, at, b" ");
-    put(out, next, &all[8 - digits..8])
+    put(out, next, digits)
 }
 
 // The slot in two decimal digits, between spaces.
 fn slot_text(slot: u8) -> [u8; 4]
     ensures { result ≡ slot_text slot }
 {
-    let digits = slot_digits(slot);
-    [b' ', digits[0], digits[1], b' ']
+    let [tens, ones] = slot_digits(slot);
+    [b' ', tens, ones, b' ']
 }
 
 // The input that tells two descriptions apart.
@@ -73,12 +65,12 @@ fn put_input(out: &mut [u8], at: usize, input: Input) -> usize
 {
     match input {
         Input::Nothing => at,
-        Input::Sample(sample) => put_number(out, at, SAMPLE_DIGITS, sample),
+        Input::Sample(sample) => put_spaced(out, at, &hex::<SAMPLE_DIGITS>(sample)),
         Input::Samples(earlier, later) => {
-            let next = put_number(out, at, SAMPLE_DIGITS, earlier);
-            put_number(out, next, SAMPLE_DIGITS, later)
+            let next = put_spaced(out, at, &hex::<SAMPLE_DIGITS>(earlier));
+            put_spaced(out, next, &hex::<SAMPLE_DIGITS>(later))
         }
-        Input::Sources(sources) => put_number(out, at, SOURCES_DIGITS, sources),
+        Input::Sources(sources) => put_spaced(out, at, &hex::<SOURCES_DIGITS>(sources)),
     }
 }
 

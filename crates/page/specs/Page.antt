@@ -11,7 +11,12 @@ use Rattle.refusal.specs.Line.{decimal}
 use Rattle.report.specs.Page.{body_text}
 use Rattle.page.specs.declared.Paged.{Paged}
 use Rattle.page.specs.declared.Paged.TheVariants.{Done, Old, New, Short, TooLong}
-use Rattle.page.specs.Files.{File}
+use Rattle.page.specs.declared.file.File as declared
+use Rattle.page.specs.Files.{File, file}
+
+-- a file as the code has it: three lent parts [T7]
+abbrev pub file_of : declared.File → File
+file_of f = file f.name.now f.bytes.now f.digest.now
 
 -- a digest, or that none was asked for [T7]
 abbrev pub digest_text : List ℕ → List ℕ

@@ -8,5 +8,5 @@ use crate::bytes::u32_at;
 pub fn field(description: &[u8], i: u8) -> u32
     ensures { result ≡ field_of description.now i }
 {
-    u32_at(description, 4 * (i as usize))
+    u32_at(description, 4 * usize::from(i))
 }

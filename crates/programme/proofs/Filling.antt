@@ -1,17 +1,20 @@
 -- The walk over a section's slots, and over the sections: what is still to be written makes the whole table. Assumes
 -- nothing.
 use Prim.Native.Nat.{ℕ, suc, ◌+◌, ◌-◌, ◌≤◌, ◌<◌}
-use mathlib.Core.Path.{◌≡◌, refl}
+use mathlib.Core.Path.{◌≡◌, refl, sym, ap}
 use mathlib.Core.List.{List, [], ◌++◌}
 use native.Mathlib.Omega.{arith}
 use native.Mathlib.Nat.{sub-zero}
+use borrow.Rule.Slice.PartMut.{mid_of, put_mid}
 use lib.ListN.{length, get_or, drop}
-use Rattle.buffer.specs.Room.{Wrote}
-use Rattle.buffer.proofs.Left.{Stepping, stepping_start, stepping_room, stepping_turn, stepping_end}
-use Rattle.kinds.specs.Table.{sections, most_of}
+use Rattle.buffer.specs.Room.{bytes, Delivered, Wrote}
+use Rattle.buffer.specs.declared.Outcome.{Outcome}
+use Rattle.buffer.proofs.Left.{Stepping, stepping_start, stepping_room, stepping_turn, stepping_end, wrote_lent}
+use Rattle.kinds.specs.Table.{sections, most_of, entry_size}
 use Rattle.records.specs.Records.{records_in, front}
-use Rattle.sheet.specs.Parsed.{Ordered, parse}
-use Rattle.sheet.proofs.Cursors.{Cursor, cursor_start, cursor_finds, cursor_turn}
+use Rattle.sheet.specs.Parsed.{parse}
+use Rattle.sheet.proofs.Cursors.{Cursor, cursor_finds, cursor_turn}
+use Rattle.programme.proofs.Rows.{entry_length}
 use Rattle.programme.specs.Table.{entry_for, entries_from, table_from, table_of}
 
 -- ---- the slots of a section
@@ -34,11 +37,6 @@ pub record Filling (k from : ℕ) (part out₀ out : List ℕ) (at i slot : ℕ)
   pub cursor : Cursor k slot i part
   pub steps : Stepping from (entries_on k part) (most_of k) out₀ out at slot
 
-pub filling_start : (k from : ℕ) (part out : List ℕ) → Ordered k 0 (records_in k part) → from + length (section_entries k part) ≤ length out
-    → Filling k from part out out from 0 0
-filling_start k from part out o h =
-    record { cursor = cursor_start k part o; steps = stepping_start from (entries_on k part) (most_of k) out (rw (all_entries k part) h) }
-
 module _ (k from : ℕ) (part out₀ out : List ℕ) (at i slot : ℕ) (r : List ℕ) (f : Filling k from part out₀ out at i slot) (h : slot < most_of k)
     (e : r ≡ front slot (records_in k (drop i part))) where
   entries_step : entries_on k part slot ≡ entry_for k r ++ entries_on k part (slot + 1)
@@ -47,14 +45,21 @@ module _ (k from : ℕ) (part out₀ out : List ℕ) (at i slot : ℕ) (r : List
       let n : most_of k - slot ≡ suc (most_of k - (slot + 1)) = omega arith in
       rw (n, cursor_finds k slot i part r f.cursor e)
 
-  pub filling_room : at + length (entry_for k r) ≤ length out
-  filling_room = stepping_room from (entries_on k part) (most_of k) out₀ out at slot f.steps (entry_for k r) entries_step
+  room : at + length (entry_for k r) ≤ length out
+  room = stepping_room from (entries_on k part) (most_of k) out₀ out at slot f.steps (entry_for k r) entries_step
 
-  pub filling_turn : (out' : List ℕ) (at' : ℕ) → Wrote at (entry_for k r) out out' at' → Filling k from part out₀ out' at' (i + length r) (slot + 1)
-  filling_turn out' at' w =
+  pub filling_room : at + entry_size k ≤ length out
+  filling_room = rw (← entry_length k r) room
+
+  -- the rest of the room was lent to the writer of the slot's entry
+  pub filling_turn : (o : Outcome) (lent : List ℕ) → Delivered (bytes (entry_for k r)) (mid_of at (length out - at) out) o lent
+      → Filling k from part out₀ (put_mid at (length out - at) out lent) (at + entry_size k) (i + length r) (slot + 1)
+  filling_turn o lent d =
       record {
         cursor = cursor_turn k slot i part r f.cursor e;
-        steps = stepping_turn from (entries_on k part) (most_of k) out₀ out at slot f.steps (entry_for k r) entries_step h out' at' w;
+        steps =
+            stepping_turn from (entries_on k part) (most_of k) out₀ out at slot f.steps (entry_for k r) entries_step h _ _
+            (wrote_lent at (entry_for k r) out o lent _ room (ap (λ (n : ℕ). at + n) (sym (entry_length k r))) d);
       }
 
 pub filling_end : (k from : ℕ) (part out₀ out : List ℕ) (at i slot : ℕ) → Filling k from part out₀ out at i slot → most_of k ≤ slot

@@ -16,6 +16,7 @@ mod slots;
 pub const TABLE_LENGTH: usize = kinds::ALL_ENTRIES;
 
 // The table of a sheet, written at the start of `out`.
+#[tactic(auto, using(crate::proofs::Theorems::table_length_law, sheet::proofs::Laid::judged_accepted, sheet::proofs::Laid::judged_refusal, buffer::proofs::Writing::too_short))]
 pub fn prepare(sheet: &[u8], out: &mut [u32]) -> Outcome
     ensures { Delivered (prepared sheet.now) out.old result out.new }
 {

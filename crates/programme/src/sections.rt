@@ -14,23 +14,20 @@ use kinds::SECTIONS;
 use sheet::Judged;
 
 // The entries of every slot of a section, by one walk over its records, from an index of the room on. Answers the index behind them.
+#[tactic(auto, using(kinds::proofs::Rows::most_byte))]
 fn put_section(out: &mut [u32], from: usize, section: usize, part: &[u8]) -> usize
     requires part_in_bounds { from + length (entries_from (most_of section) 0 section (records_in section part.now)) ≤ length out.old }
     requires ordered { Ordered section 0 (records_in section part.now) }
     ensures { Wrote from (entries_from (most_of section) 0 section (records_in section part.now)) out.old out.new result }
 {
     let row = kinds::row_of(section);
-    let most = row.most;
-    let step = row.entry;
     let mut at = from;
-    let mut i: usize = 0;
-    let mut slot: usize = 0;
-    while slot < most {
+    let mut i = 0;
+    for slot in 0..row.most {
         let rec = records::record_with(part, section, i, slot as u8);
         put_slot(&mut out[at..], section, rec);
-        at += step;
+        at += row.entry;
         i += rec.len();
-        slot += 1;
     }
     at
 }
@@ -41,15 +38,13 @@ pub(crate) fn put_sections(out: &mut [u32], sheet: &[u8], found: Judged) -> usiz
     requires sheet_value { (verdict sheet.now ≡ Accepted) × (found ≡ judged_of sheet.now) }
     ensures { Wrote 0 (table_of (parse sheet.now)) out.old out.new result }
 {
-    let mut at: usize = 0;
-    let mut section: usize = 0;
-    while section < SECTIONS {
+    let mut at = 0;
+    for section in 0..SECTIONS {
         let part = peek::prefix(
             peek::suffix(sheet, found.starts[section]),
             found.sizes[section],
         );
         at = put_section(out, at, section, part);
-        section += 1;
     }
     at
 }

@@ -1,14 +1,19 @@
 -- The carry of a chain by one compare: the lines whose tables answer 0, those that are 1 apart from those that are 0.
 -- Assumes nothing.
-use Rattle.std.proofs.Common.{◌≡◌, ℕ, zero, suc, ◌+◌, ◌*◌, ◌%◌, ◌^◌, ◌<◌, true, false, eqb, ltb, List, sym, refl, ap, ◌∙◌, ap₂, mod-lt, mod-eq_of_lt, arith, eqb→eq, pow_pos, le-ltb, lt-ltb}
+use Rattle.std.proofs.Common.{◌≡◌, ℕ, zero, suc, ◌+◌, ◌*◌, ◌%◌, ◌^◌, ◌<◌, Bool, true, false, eqb, ltb, List, sym, refl, ap, ◌∙◌, ap₂, mod-lt, mod-eq_of_lt, arith, eqb→eq, pow_pos, le-ltb, lt-ltb, bit_and, bit_or, bit_xor}
 use native.Mathlib.Nat.{mod-one}
-use lib.Bits.{bit_and, bit_or, bit_xor}
 use lib.Pow as pow
+use Rattle.std.specs.Int.{from_bool}
 use Rattle.lines.specs.Line.{line, choose}
 use Rattle.lines.proofs.Computed.{every_below_law}
 use Rattle.lines.proofs.Digit.{bit_lt, line_and, line_or, line_xor}
 use Rattle.lut.specs.Table.{answer_at, one_if}
 use Rattle.range.specs.Model.{table_at, carry_after, carry_from, chain_carry}
+
+-- a test as a number
+pub from_one_if : (b : Bool) → from_bool b ≡ one_if b
+from_one_if true = refl
+from_one_if false = refl
 
 -- what the lines below i have told of the carry
 abbrev pub Says : (x y i carry : ℕ) → Type 0

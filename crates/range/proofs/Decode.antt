@@ -1,5 +1,6 @@
 -- The way back: the words of an accepted range decode to it, and what is read writes the words that were read. Assumes nothing.
-use Rattle.std.proofs.Common.{◌≡◌, ℕ, zero, suc, ◌+◌, ◌-◌, ◌/◌, ◌^◌, ◌<◌, ◌≤◌, Bool, true, false, cond, ◌&&◌, eqb, leb, ◌↔◌, List, length, take, drop, sym, refl, ap, ◌∙◌, subst, arith, pow_pos, eq-eqb, le-leb, leb-true}
+use Rattle.std.proofs.Common.{◌≡◌, ℕ, zero, suc, ◌+◌, ◌-◌, ◌/◌, ◌^◌, ◌<◌, ◌≤◌, Bool, true, false, cond, ◌&&◌, eqb, leb, Option, Some, None, List, length, take, drop, sym, refl, ap, ◌∙◌, subst, arith, pow_pos, eq-eqb, ne_eqb, le-leb, leb-true}
+use borrow.Author.Tests.{lt-leb}
 use lib.Count.{ones}
 use Rattle.lines.specs.Line.{line}
 use Rattle.lines.specs.Gather.{scattered}
@@ -14,7 +15,8 @@ use Rattle.lut.specs.Back.{ReadNumbered}
 use Rattle.lut.proofs.Numbers.{numbered_read, numbered_refused}
 use Rattle.lut.proofs.Tables.{one_lt}
 use Rattle.range.specs.declared.Range.{Range}
-use Rattle.range.specs.declared.ReadRange.{ReadRange}
+use Rattle.std.specs.Bool.{then_some}
+use Rattle.std.proofs.lemmas.Option.{none-some}
 use Rattle.range.specs.Rule.{RangeAccepted, Accepted}
 use Rattle.range.specs.Words.{table_for, chain_words, lower_value, upper_value, sent_words, words_of}
 use Rattle.range.specs.Model.{table_at}
@@ -90,7 +92,7 @@ module _ (lower upper mask : ℕ) (a : RangeAccepted lower upper mask) where
       (ap (λ (m : ℕ). chain_bound m (drop 16 words)) decoded_mask ∙ decoded_upper) decoded_mask
 
   -- reading the words of an accepted range gives it back
-  pub read_back_law : read_range (sent_words lower upper mask) ≡ ReadRange.Range lower upper mask
+  pub read_back_law : read_range (sent_words lower upper mask) ≡ Some (record { lower = lower; upper = upper; mask = mask })
   unfolding read_range
   read_back_law =
       let words = sent_words lower upper mask in
@@ -100,63 +102,63 @@ module _ (lower upper mask : ℕ) (a : RangeAccepted lower upper mask) where
 -- ---- any words
 
 -- what is decoded is accepted, if its bounds are in order
-decoded_accepted : (words : List ℕ) → (decoded words).lower ≤ (decoded words).upper
-    → RangeAccepted (decoded words).lower (decoded words).upper (decoded words).mask
+decoded_accepted : (words : List ℕ) → (decoded words).lower ≤ (decoded words).upper → Accepted (decoded words)
 unfolding chain_bound
 decoded_accepted words o =
     record { fits = omega arith; positive = omega arith; ordered = o; within = omega arith }
 
-module _ (words : List ℕ) (lower upper mask : ℕ) where
-  -- the tests that led to an answer
-  came : (t s : Bool)
-      → cond t (cond s (ReadRange.Range (decoded words).lower (decoded words).upper (decoded words).mask) ReadRange.Refused) ReadRange.Refused
-      ≡ ReadRange.Range lower upper mask
-      → (s ≡ true) × ((decoded words).lower ≡ lower) × ((decoded words).upper ≡ upper) × ((decoded words).mask ≡ mask)
-  came true true e = (refl, cc, cc, cc)
-  came true false e = let z : ◌≡◌ {A = ℕ} 0 1 = cc in absurd (omega arith)
-  came false s e = let z : ◌≡◌ {A = ℕ} 0 1 = cc in absurd (omega arith)
+-- the tests that led to an answer
+picked : (words : List ℕ) (s t : Bool) (r : Range) → cond s (then_some t (decoded words)) None ≡ Some r → (t ≡ true) × (decoded words ≡ r)
+picked words true true r e = (refl, cc)
+picked words true false r e = absurd (none-some r e)
+picked words false t r e = absurd (none-some r e)
 
-  -- what is read is accepted and writes the words
-  read_range_law : read_range words ≡ ReadRange.Range lower upper mask → RangeAccepted lower upper mask × (words ≡ sent_words lower upper mask)
-  unfolding read_range
-  read_range_law e =
-      let r = decoded words in
-      let c = came (eqb (length words) 32) (leb r.lower r.upper && same words (words_of r)) e in
-      let b = both_true (leb r.lower r.upper) (same words (words_of r)) c.0 in
-      let a = decoded_accepted words (leb-true r.lower r.upper b.0) in
-      let given : r ≡ record { lower = lower; upper = upper; mask = mask }
-      = range_path r (record { lower = lower; upper = upper; mask = mask }) c.1 c.2 c.3 in
-      subst (λ (q : Range). Accepted q × (words ≡ words_of q)) given (a, same_true words (words_of r) b.1)
+read_some : (words : List ℕ) (r : Range) → read_range words ≡ Some r → Accepted r × (words ≡ words_of r)
+unfolding read_range
+read_some words r e =
+    let d = decoded words in
+    let p = picked words (eqb (length words) 32) (leb d.lower d.upper && same words (words_of d)) r e in
+    let b = both_true (leb d.lower d.upper) (same words (words_of d)) p.0 in
+    subst (λ (q : Range). Accepted q × (words ≡ words_of q)) p.1
+    (decoded_accepted words (leb-true d.lower d.upper b.0), same_true words (words_of d) b.1)
 
-  -- exactly the words of an accepted range are read
-  pub read_iff : (read_range words ≡ ReadRange.Range lower upper mask) ↔ (RangeAccepted lower upper mask × (words ≡ sent_words lower upper mask))
-  read_iff = (read_range_law, λ p. ap read_range p.1 ∙ read_back_law lower upper mask p.0)
-
+-- what is read is accepted and writes the words, or no accepted range does
 pub read_means : (words : List ℕ) → ReadMeans words (read_range words)
 read_means words = go (read_range words) refl
   where
-    go : (r : ReadRange) → read_range words ≡ r → ReadMeans words r
-    go (ReadRange.Range lower upper mask) e = read_range_law words lower upper mask e
-    go ReadRange.Refused e = λ lower upper mask a w.
-        let back = ap read_range w ∙ read_back_law lower upper mask a in
-        let z : ◌≡◌ {A = ℕ} 0 1 = cc in
-        absurd (omega arith)
+    go : (r : Option Range) → read_range words ≡ r → ReadMeans words r
+    go (Some r) e = read_some words r e
+    go None e = λ lower upper mask a w. none-some _ (sym e ∙ ap read_range w ∙ read_back_law lower upper mask a)
 
 -- and an answer that says so has these numbers
-pub read_numbered : (words : List ℕ) (r : ReadRange) → ReadMeans words r → ReadNumbered Accepted words_of words (read_number r) (read_place r)
-read_numbered words (ReadRange.Range lower upper mask) says =
-    numbered_read Accepted words_of words (record { lower = lower; upper = upper; mask = mask }, (says.0, says.1))
-read_numbered words ReadRange.Refused none =
+pub read_numbered : (words : List ℕ) (r : Option Range) → ReadMeans words r → ReadNumbered Accepted words_of words (read_number r) (read_place r)
+read_numbered words (Some r) says = numbered_read Accepted words_of words (r, (says.0, says.1))
+read_numbered words None none =
     numbered_refused Accepted words_of words (λ x. none x.0.lower x.0.upper x.0.mask x.1.0 x.1.1)
 
--- what is right of the answer is right of what equals it
-pub read_meets : (words : List ℕ) (r : ReadRange) → r ≡ read_range words
-    → (r ≡ read_range words) × (ReadMeans words r × ReadNumbered Accepted words_of words (read_number r) (read_place r))
-read_meets words r e = let says = subst (ReadMeans words) (sym e) (read_means words) in (e, (says, read_numbered words r says))
+-- ---- the call: any other count, and what 32 words decode to
 
--- what is read are 32-bit numbers
-pub read_fits : (words : List ℕ) (lower upper mask : ℕ) → read_range words ≡ ReadRange.Range lower upper mask
-    → (lower < 2 ^ 32) × (upper < 2 ^ 32) × (mask < 2 ^ 32)
-read_fits words lower upper mask e =
-    let a = (read_range_law words lower upper mask e).0 in
-    (lower_fits lower upper mask a, upper_fits lower upper mask a, a.fits)
+pub read_other : (words : List ℕ) → (length words ≡ 32 → ⊥) → None ≡ read_range words
+unfolding read_range
+read_other words n = rw (ne_eqb (length words) 32 n)
+
+module _ (words : List ℕ) (r : Range) (len : length words ≡ 32) (d : decoded words ≡ r) where
+  pub read_unordered : r.upper < r.lower → None ≡ read_range words
+  unfolding read_range
+  read_unordered h = rw (eq-eqb (length words) 32 len) (sym (ap (read_as words) d ∙ rw (lt-leb r.lower r.upper h)))
+
+  pub read_ordered : r.lower ≤ r.upper → then_some (same words (words_of r)) r ≡ read_range words
+  unfolding read_range
+  read_ordered h = rw (eq-eqb (length words) 32 len) (sym (ap (read_as words) d ∙ rw (le-leb r.lower r.upper h)))
+
+-- both other promises of the call follow from its first
+module _ (words : List ℕ) (r : Option Range) (e : r ≡ read_range words) where
+  pub answer_means : ReadMeans words r
+  answer_means = rw e (read_means words)
+
+  pub answer_numbered : ReadNumbered Accepted words_of words (read_number r) (read_place r)
+  answer_numbered = read_numbered words r answer_means
+
+-- what is accepted are 32-bit numbers
+pub accepted_fits : (r : Range) → Accepted r → (r.lower < 2 ^ 32) × (r.upper < 2 ^ 32) × (r.mask < 2 ^ 32)
+accepted_fits r a = (lower_fits r.lower r.upper r.mask a, upper_fits r.lower r.upper r.mask a, a.fits)

@@ -1,10 +1,11 @@
 pub mod Tables
-pub mod Made
 pub mod Compared
 pub mod Packed
 pub mod Adder
 pub mod Carry
 pub mod Faults
+pub mod Found
+pub mod FromFn
 pub mod Decode
 pub mod Theorems
 pub mod Ways

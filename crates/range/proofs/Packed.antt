@@ -1,7 +1,7 @@
 -- Answers packed two bits to a line, and the lines of the packed words. Assumes nothing.
-use Rattle.std.proofs.Common.{◌≡◌, ℕ, zero, suc, ◌+◌, ◌-◌, ◌*◌, ◌/◌, ◌%◌, ◌^◌, ◌<◌, eqb, ltb, List, get_or, sym, ap, ◌∙◌, ap₂, mod-lt, mod-eq_of_lt, div-one, add-one, arith, lit<, eqb→eq}
+use Rattle.std.proofs.Common.{◌≡◌, ℕ, zero, suc, ◌+◌, ◌-◌, ◌*◌, ◌/◌, ◌%◌, ◌^◌, ◌<◌, ◌≤◌, eqb, ltb, List, get_or, take, drop, sym, ap, ◌∙◌, ap₂, mod-lt, mod-eq_of_lt, div-one, add-one, lt_of_lt_of_le, pow_mono, get_or-take, get_or-drop, arith, lit<, eqb→eq, bit_and, bit_or, bit_xor}
 use native.Mathlib.Decide.{ℕ_discrete, dec_lt}
-use lib.Bits.{bit_and, bit_or, bit_xor, and_block, and_mask, and_zero_r, or_zero_l, or_zero_r, and_le_l, and_le_r, or_lt, xor_lt}
+use lib.Bits.{and_block, and_mask, and_zero_r, or_zero_l, or_zero_r, and_le_l, and_le_r, or_lt, xor_lt}
 use lib.Pow as pow
 use Rattle.lines.specs.Line.{line}
 use Rattle.lines.proofs.Computed.{every_below_law}
@@ -153,40 +153,80 @@ module _ (chain : List ℕ) (even odd : ℕ)
   pub at_one : (i : ℕ) → i < 32 → line (bit_or (bit_and (even / 2) 0x55555555) (bit_and odd 0xAAAAAAAA)) i ≡ answer_at (table_at chain i) 1
   at_one i h = parity i (at_one_even i h) (at_one_odd i h)
 
+-- ---- eight words, one after the other
+
+-- their tables
+abbrev pub lows : (words : List ℕ) (k : ℕ) → ℕ
+lows words k = low (get_or words k 0)
+
+abbrev pub highs : (words : List ℕ) (k : ℕ) → ℕ
+highs words k = high (get_or words k 0)
+
+-- what they are packed to
+abbrev pub Low : (words : List ℕ) (r : ℕ) → Type 0
+Low words r = (j : ℕ) → j < 16 → line r j ≡ answer_at (lows words (7 - j / 2)) (j % 2)
+
+abbrev pub High : (words : List ℕ) (r : ℕ) → Type 0
+High words r = (j : ℕ) → j < 16 → line r (j + 16) ≡ answer_at (highs words (7 - j / 2)) (j % 2)
+
+-- seven have room for one more
+room : (f : ℕ → ℕ) (k : ℕ) → k < 8 → quads f k < 16384
+room f k h = lt_of_lt_of_le (quads_lt f k) (pow_mono {i = 2 * k} {j = 14} (omega arith))
+
+full : (f : ℕ → ℕ) (k : ℕ) → k ≤ 8 → quads f k < 65536
+full f k h = lt_of_lt_of_le (quads_lt f k) (pow_mono {i = 2 * k} {j = 16} (omega arith))
+
+module _ (words : List ℕ) (r k : ℕ) (e : r ≡ quads (highs words) k * 65536 + quads (lows words) k) where
+  pub packed_fits : k < 8 → r * 4 < 4294770688
+  packed_fits h = omega (arith, e, room (highs words) k h, room (lows words) k h)
+
+  pub packed_more : r * 4 + bit_and (get_or words k 0) 0x30003 ≡ quads (highs words) (k + 1) * 65536 + quads (lows words) (k + 1)
+  packed_more = omega (arith, e, both (get_or words k 0), quads_next (highs words) k, quads_next (lows words) k)
+
+  pub packed_low : k ≡ 8 → Low words r
+  packed_low h j l =
+      ap (λ (x : ℕ). line x j) e ∙ lower_line (quads (highs words) k) (quads (lows words) k) (full (lows words) k (omega arith)) j l
+      ∙ ap (λ (n : ℕ). line (quads (lows words) n) j) h ∙ quads_line (lows words) 8 j (omega arith)
+
+  pub packed_high : k ≡ 8 → High words r
+  packed_high h j l =
+      ap (λ (x : ℕ). line x (j + 16)) e ∙ upper_line (quads (highs words) k) (quads (lows words) k) (full (lows words) k (omega arith)) j
+      ∙ ap (λ (n : ℕ). line (quads (highs words) n) j) h ∙ quads_line (highs words) 8 j (omega arith)
+
 -- ---- both halves of a chain
 
--- what eight words from an index on have been packed to
-abbrev pub Low : (chain : List ℕ) (start r : ℕ) → Type 0
-Low chain start r = (j : ℕ) → j < 16 → line r j ≡ answer_at (low (get_or chain (start + (7 - j / 2)) 0)) (j % 2)
+-- where the words of its halves stand
+in_first : (chain : List ℕ) (k n : ℕ) → k < 8 → k ≡ n → get_or (take 8 chain) k 0 ≡ get_or chain n 0
+in_first chain k n h e = get_or-take 8 chain k 0 h ∙ ap (λ (m : ℕ). get_or chain m 0) e
 
-abbrev pub High : (chain : List ℕ) (start r : ℕ) → Type 0
-High chain start r = (j : ℕ) → j < 16 → line r (j + 16) ≡ answer_at (high (get_or chain (start + (7 - j / 2)) 0)) (j % 2)
+in_second : (chain : List ℕ) (k n : ℕ) → 8 + k ≡ n → get_or (drop 8 chain) k 0 ≡ get_or chain n 0
+in_second chain k n e = get_or-drop 8 chain k 0 ∙ ap (λ (m : ℕ). get_or chain m 0) e
 
 module _ (chain : List ℕ) (a b : ℕ) (fits : b < 4294967296) where
-  pub even_lines : Low chain 0 a → Low chain 8 b → (i : ℕ) → i < 32
+  pub even_lines : Low (take 8 chain) a → Low (drop 8 chain) b → (i : ℕ) → i < 32
       → line (a % 65536 * 65536 + b % 65536) i ≡ answer_at (low (get_or chain (15 - i / 2) 0)) (i % 2)
   even_lines la lb i h = below_or 16 i
-      (λ l. let at : 8 + (7 - i / 2) ≡ 15 - i / 2 = omega arith in
-      lower_line (a % 65536) (b % 65536) (mod-lt b (lit< tt)) i l ∙ line_mod b 16 i l ∙ lb i l ∙ ap (λ (n : ℕ). answer_at (low (get_or chain n 0)) (i % 2)) at)
-      (λ j e. let at : 0 + (7 - j / 2) ≡ 15 - i / 2 = omega arith in
+      (λ l. let at = in_second chain (7 - i / 2) (15 - i / 2) (omega arith) in
+      lower_line (a % 65536) (b % 65536) (mod-lt b (lit< tt)) i l ∙ line_mod b 16 i l ∙ lb i l ∙ ap (λ (w : ℕ). answer_at (low w) (i % 2)) at)
+      (λ j e. let at = in_first chain (7 - j / 2) (15 - i / 2) (omega arith) (omega arith) in
       let bit : j % 2 ≡ i % 2 = omega arith in
       let l : j < 16 = omega arith in
       ap (line (a % 65536 * 65536 + b % 65536)) e ∙ upper_line (a % 65536) (b % 65536) (mod-lt b (lit< tt)) j ∙ line_mod a 16 j l ∙ la j l
-      ∙ ap₂ (λ (n v : ℕ). answer_at (low (get_or chain n 0)) v) at bit)
+      ∙ ap₂ (λ (w v : ℕ). answer_at (low w) v) at bit)
 
-  pub odd_lines : High chain 0 a → High chain 8 b → (i : ℕ) → i < 32
+  pub odd_lines : High (take 8 chain) a → High (drop 8 chain) b → (i : ℕ) → i < 32
       → line (a / 65536 * 65536 + b / 65536) i ≡ answer_at (high (get_or chain (15 - i / 2) 0)) (i % 2)
   odd_lines ha hb i h = below_or 16 i
-      (λ l. let at : 8 + (7 - i / 2) ≡ 15 - i / 2 = omega arith in
-      lower_line (a / 65536) (b / 65536) (omega arith) i l ∙ sym (line_up b i 16) ∙ hb i l ∙ ap (λ (n : ℕ). answer_at (high (get_or chain n 0)) (i % 2)) at)
-      (λ j e. let at : 0 + (7 - j / 2) ≡ 15 - i / 2 = omega arith in
+      (λ l. let at = in_second chain (7 - i / 2) (15 - i / 2) (omega arith) in
+      lower_line (a / 65536) (b / 65536) (omega arith) i l ∙ sym (line_up b i 16) ∙ hb i l ∙ ap (λ (w : ℕ). answer_at (high w) (i % 2)) at)
+      (λ j e. let at = in_first chain (7 - j / 2) (15 - i / 2) (omega arith) (omega arith) in
       let bit : j % 2 ≡ i % 2 = omega arith in
       ap (line (a / 65536 * 65536 + b / 65536)) e ∙ upper_line (a / 65536) (b / 65536) (omega arith) j ∙ sym (line_up a j 16) ∙ ha j (omega arith)
-      ∙ ap₂ (λ (n v : ℕ). answer_at (high (get_or chain n 0)) v) at bit)
+      ∙ ap₂ (λ (w v : ℕ). answer_at (high w) v) at bit)
 
 -- all of it
 module _ (chain : List ℕ) (sample a b : ℕ) (hs : sample < 4294967296) (fits : b < 4294967296)
-    (la : Low chain 0 a) (ha : High chain 0 a) (lb : Low chain 8 b) (hb : High chain 8 b) where
+    (la : Low (take 8 chain) a) (ha : High (take 8 chain) a) (lb : Low (drop 8 chain) b) (hb : High (drop 8 chain) b) where
   abbrev pub even : ℕ
   even = a % 65536 * 65536 + b % 65536
 

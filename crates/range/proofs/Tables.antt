@@ -1,6 +1,8 @@
 -- The laws of chain words: how many there are, which word stands where, and which table a word holds for a line. Assumes nothing.
-use Rattle.std.proofs.Common.{◌≡◌, ℕ, zero, suc, ◌+◌, ◌-◌, ◌*◌, ◌/◌, ◌%◌, ◌^◌, ◌<◌, List, [], ◌++◌, length, get_or, take, drop, sym, refl, ap, ◌∙◌, ap₂, div-add-mod', arith, lit<, length-append, length-drop, take-append-drop, length-take, take_at, get_or-append-add, ext_get_or, drop_at}
+use Rattle.std.proofs.Common.{◌≡◌, ℕ, zero, suc, ◌+◌, ◌-◌, ◌*◌, ◌/◌, ◌%◌, ◌^◌, ◌<◌, List, ◌++◌, length, get_or, take, drop, sym, ap, ◌∙◌, ap₂, div-add-mod', arith, lit<, length-append, length-drop, take-append-drop, length-take, take_at, get_or-append-add, ext_get_or, drop_at}
 use native.Mathlib.Decide.{dec_lt}
+use Rattle.std.specs.List.{flat_map}
+use Rattle.std.proofs.lemmas.List.{append-nil}
 use lib.ListN.{get_or-append}
 use Rattle.lines.specs.Line.{line, choose}
 use Rattle.lines.specs.Gather.{scattered}
@@ -72,22 +74,10 @@ table_at_law mask value i h = table_down mask (scattered 32 value mask) i h
 -- ---- both chains, as they are sent
 
 module _ (lower upper mask : ℕ) where
-  -- two chains, one after the other
-  pub length_chains : length (range_words lower upper mask) ≡ 2
-  unfolding range_words
-  length_chains = refl
-
-  pub first_chain : get_or (range_words lower upper mask) 0 [] ≡ lower_chain lower mask
-  unfolding range_words
-  first_chain = refl
-
-  pub second_chain : get_or (range_words lower upper mask) 1 [] ≡ upper_chain upper mask
-  unfolding range_words
-  second_chain = refl
-
-  pub sent_chains : sent_words lower upper mask ≡ lower_chain lower mask ++ upper_chain upper mask
-  unfolding sent_words
-  sent_chains = refl
+  -- the words of two chains, one after the other
+  pub flat_chains : flat_map (λ x. x) (range_words lower upper mask) ≡ sent_words lower upper mask
+  unfolding range_words sent_words
+  flat_chains = ap (◌++◌ (lower_chain lower mask)) (append-nil (upper_chain upper mask))
 
   pub take_sent : take 16 (sent_words lower upper mask) ≡ lower_chain lower mask
   unfolding sent_words

@@ -1,6 +1,6 @@
 -- What is promised of ranges. What cannot matter in a range and what tells two apart is in range_telling. Assumes
 -- nothing.
-use Rattle.std.proofs.Common.{◌≡◌, ℕ, ◌↔◌, List, [], ◌∷◌, length, sym, refl, ap, ◌∙◌, arith, lit<}
+use Rattle.std.proofs.Common.{◌≡◌, ℕ, ◌↔◌, Option, Some, None, List, [], ◌∷◌, length, sym, refl, ap, ◌∙◌, arith, lit<}
 use Rattle.peek.specs.Bytes.{Bytes}
 use Rattle.peek.specs.Fields.{field_bytes}
 use Rattle.peek.proofs.FieldLaws.{fields_read, fields_written, fit₃, same₃}
@@ -13,7 +13,6 @@ use Rattle.lut.specs.declared.Input.TheVariants.{Sample}
 use Rattle.lut.proofs.Asked.{alike_on_samples}
 use Rattle.lut.proofs.Runs.{run_needed}
 use Rattle.range.specs.declared.Range.{Range}
-use Rattle.range.specs.declared.ReadRange.{ReadRange}
 use Rattle.range.specs.Rule.{hit_of, hit, Accepted}
 use Rattle.range.specs.Words.{words_of}
 use Rattle.range.specs.Model.{model_hit, run_range}
@@ -28,18 +27,18 @@ run_hits r a sample =
     run_needed 32 (words_of r) _ _ (length_sent r.lower r.upper r.mask) (model_hits r.lower r.upper r.mask a sample)
 
 -- an accepted range's words are read as that range [C5, D2.5]
-pub words_read_back : (r : Range) → Accepted r → read_range (words_of r) ≡ ReadRange.Range r.lower r.upper r.mask
+pub words_read_back : (r : Range) → Accepted r → read_range (words_of r) ≡ Some r
 words_read_back r = read_back_law r.lower r.upper r.mask
 
 -- words are refused unless an accepted range writes them [C5, F16, D2.6]
-pub accepted_iff_written : (words : List ℕ) → (read_range words ≡ ReadRange.Refused → ⊥) ↔ Written Accepted words_of words
+pub accepted_iff_written : (words : List ℕ) → (read_range words ≡ None → ⊥) ↔ Written Accepted words_of words
 accepted_iff_written ws =
     let numbered = read_numbered ws (read_range ws) (read_means ws) in
     (λ n. numbered.read.0 (unrefused (read_range ws) n), λ w e. numbered.refused.0 (ap read_number e) w)
   where
-    unrefused : (r : ReadRange) → (r ≡ ReadRange.Refused → ⊥) → read_number r ≡ 0
-    unrefused (ReadRange.Range lower upper mask) n = refl
-    unrefused ReadRange.Refused n = absurd (n refl)
+    unrefused : (r : Option Range) → (r ≡ None → ⊥) → read_number r ≡ 0
+    unrefused (Some r) n = refl
+    unrefused None n = absurd (n refl)
 
 -- no sample tells two accepted ranges apart that have the same chain words [D3.3]
 pub equal_words_alike : (a b : Range) → Accepted a → Accepted b → words_of a ≡ words_of b → HitAlike (hit a) (hit b)

@@ -1,9 +1,8 @@
 -- A range's description in a sheet, as bytes: what every kind of record answers of its own. What tells two apart is in
 -- range_telling.
-use Rattle.std.specs.Prelude.{ℕ, List, [], ◌∷◌}
+use Rattle.std.specs.Prelude.{ℕ, Option, Some, None, List, [], ◌∷◌}
 use Rattle.peek.specs.Fields.{field_of, field_bytes}
 use Rattle.range.specs.declared.Range.{Range}
-use Rattle.range.specs.declared.ReadRange.{ReadRange}
 use Rattle.range.specs.Rule.{range_fault}
 use Rattle.range.specs.Words.{words_of}
 use Rattle.range.specs.Back.{read_range}
@@ -29,9 +28,9 @@ unfoldable pub words : List ℕ → List ℕ
 words d = words_of (from_bytes d)
 
 -- the description of an answer of the way back; no bytes where it is refused [B7, C5]
-abbrev pub bytes_read : ReadRange → List ℕ
-bytes_read (ReadRange.Range lower upper mask) = to_bytes (record { lower = lower; upper = upper; mask = mask })
-bytes_read ReadRange.Refused = []
+abbrev pub bytes_read : Option Range → List ℕ
+bytes_read (Some r) = to_bytes r
+bytes_read None = []
 
 -- computed: the description that words are read as, no bytes if there is none; theorem read_means [B6, B7, C5, F16]
 unfoldable pub back : List ℕ → List ℕ

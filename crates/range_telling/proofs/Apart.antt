@@ -1,15 +1,12 @@
 -- Two accepted ranges hit alike on every sample exactly when they are equal without the lines that cannot matter;
 -- otherwise the telling sample tells them apart. Assumes nothing.
-use mathlib.Core.Path.{◌≡◌, refl, sym, ap, ◌∙◌}
-use mathlib.Core.Bool.{Bool, true, false, cond, beq, true≢false}
-use Prim.Native.Nat.{ℕ, zero, suc, ◌/◌, ◌%◌, ◌^◌, ◌≤◌, ◌<◌, min, max}
+use Rattle.std.proofs.Common.{◌≡◌, refl, sym, ap, ◌∙◌, Bool, true, false, cond, true≢false, ℕ, zero, suc, ◌+◌, ◌*◌, ◌/◌, ◌%◌, ◌^◌, ◌≤◌, ◌<◌, min, max, arith, eqb-true, bit_xor, eqb, pow_pos}
+use mathlib.Core.Bool.{beq}
 use native.Mathlib.Nat.{two-pow-succ}
 use native.Mathlib.Decide.{dec_lt}
-use native.Mathlib.Omega.{arith}
-use borrow.Author.Tests.{eqb-true, eqb-false}
-use lib.Count.{ones, ones_in}
-use lib.Dec.{eqb}
-use lib.Pow.{pow_pos}
+use borrow.Author.Tests.{eqb-false}
+use lib.Bits.{differ, xor_step, xor_shr}
+use lib.Count.{ones, ones_in, under, count_trailing_zeros}
 use Rattle.lines.specs.Line.{line, flip_line}
 use Rattle.lines.specs.Gather.{gathered, scattered}
 use Rattle.lines.proofs.Truth.{agree, disagree, T_true}
@@ -107,6 +104,32 @@ differ_line (suc n) m m' h h' ne =
         let next = ih (λ p. ne (omega arith)) in
         (omega (arith, next.0), λ p. next.1 (sym (line_half m i) ∙ p ∙ line_half m' i))
     go false e ih = (omega arith, λ p. eqb-false (m % 2) (m' % 2) e (sym (line_zero m) ∙ p ∙ line_zero m'))
+
+-- the lowest lines are alike, or the number of the differing lines is odd
+lowest_differs : (x y b q t : ℕ) → x < 2 → y < 2 → b ≡ q * 2 + differ x y → cond (eqb x y) (suc t) 0 ≡ under (b % 2) t
+lowest_differs zero zero b q t hx hy e = let even : b % 2 ≡ 0 = omega (arith, e) in rw even
+lowest_differs zero (suc zero) b q t hx hy e = let odd : b % 2 ≡ 1 = omega (arith, e) in rw odd
+lowest_differs zero (suc (suc y)) b q t hx hy e = absurd (omega arith)
+lowest_differs (suc zero) zero b q t hx hy e = let odd : b % 2 ≡ 1 = omega (arith, e) in rw odd
+lowest_differs (suc zero) (suc zero) b q t hx hy e = let even : b % 2 ≡ 0 = omega (arith, e) in rw even
+lowest_differs (suc zero) (suc (suc y)) b q t hx hy e = absurd (omega arith)
+lowest_differs (suc (suc x)) y b q t hx hy e = absurd (omega arith)
+
+-- the same line by the machine's count
+pub first_differ_law : (n m m' : ℕ) → first_differ n m m' ≡ count_trailing_zeros n (bit_xor m m')
+unfolding first_differ count_trailing_zeros
+first_differ_law zero m m' = refl
+first_differ_law (suc n) m m' =
+    rw (first_differ_law n (m / 2) (m' / 2), ← xor_shr m m' 1)
+    (lowest_differs (m % 2) (m' % 2) (bit_xor m m') _ _ (bit_lt m) (bit_lt m') (xor_step m m'))
+
+-- by that count, the line at which they differ
+module _ (m m' : ℕ) (h : m < 2 ^ 32) (h' : m' < 2 ^ 32) (ne : m ≡ m' → ⊥) where
+  pub differ_within : count_trailing_zeros 32 (bit_xor m m') < 32
+  differ_within = rw (← first_differ_law 32 m m') (differ_line 32 m m' h h' ne).0
+
+  pub differ_lines : line m (count_trailing_zeros 32 (bit_xor m m')) ≡ line m' (count_trailing_zeros 32 (bit_xor m m')) → ⊥
+  differ_lines = rw (← first_differ_law 32 m m') (differ_line 32 m m' h h' ne).1
 
 tell_masks_law : (a b : Range) (i : ℕ) → Reduced a → Reduced b → i < 32 → (line a.mask i ≡ line b.mask i → ⊥)
     → TellsApart (hit a) (hit b) (Sample (tell_masks a b i))

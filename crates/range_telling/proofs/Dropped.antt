@@ -1,12 +1,7 @@
 -- Which lines cannot matter, and what dropping them does to the words: FFFF in their place in both chains, and nothing else.
 -- Assumes nothing.
-use mathlib.Core.Path.{◌≡◌, refl, sym, ap, ◌∙◌}
-use mathlib.Core.Bool.{Bool, true, false, cond}
-use mathlib.Core.List.{List}
-use mathlib.Core.Logic.{◌⊎◌, inl, inr}
-use Prim.Native.Nat.{ℕ, zero, suc, ◌-◌, ◌/◌, ◌%◌, ◌^◌, ◌≤◌, ◌<◌}
+use Rattle.std.proofs.Common.{◌≡◌, refl, sym, ap, ◌∙◌, Bool, true, false, cond, List, ◌⊎◌, inl, inr, ℕ, zero, suc, ◌-◌, ◌/◌, ◌%◌, ◌^◌, ◌≤◌, ◌<◌, arith}
 use native.Mathlib.Nat.{two-pow-succ}
-use native.Mathlib.Omega.{arith}
 use lib.Count.{ones}
 use Rattle.lines.specs.Line.{line, flip_line}
 use Rattle.lines.specs.Gather.{scattered, drop_lowest}

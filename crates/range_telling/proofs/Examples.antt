@@ -1,8 +1,6 @@
 -- Two ranges worked out: the widest, and a pair with different words that hits alike. Assumes nothing.
-use mathlib.Core.Bool.{not}
-use native.Mathlib.Omega.{arith}
+use Rattle.std.proofs.Common.{not, arith, T, lit<}
 use lib.Count.{ones, ones-ones}
-use lib.Dec.{T, lit<}
 use Rattle.lines.specs.Gather.{scattered}
 use Rattle.compare.specs.Same.{same}
 use Rattle.lut.specs.Table.{down}

@@ -1,14 +1,10 @@
 -- Dropping lines that cannot matter changes no hit, keeps the range accepted, and ends with a range whose lowest masked line matters.
 -- Assumes nothing.
-use mathlib.Core.Path.{◌≡◌, refl, sym, ap, ap₂, ◌∙◌}
-use mathlib.Core.Bool.{Bool, true, false, cond, ◌&&◌, and-false}
-use mathlib.Core.Logic.{◌⊎◌, inl, inr, ⊎_elim}
-use Prim.Native.Nat.{ℕ, zero, suc, ◌-◌, ◌/◌, ◌%◌, ◌^◌, ◌≤◌, ◌<◌}
-use native.Mathlib.Nat.{two-pow-succ, lt_of_le_of_lt}
-use native.Mathlib.Omega.{arith}
-use borrow.Author.Tests.{eqb-true, eqb-false}
+use Rattle.std.proofs.Common.{◌≡◌, refl, sym, ap, ap₂, ◌∙◌, Bool, true, false, cond, ◌&&◌, ◌⊎◌, inl, inr, ⊎_elim, ℕ, zero, suc, ◌+◌, ◌-◌, ◌/◌, ◌%◌, ◌^◌, ◌≤◌, ◌<◌, lt_of_le_of_lt, arith, eqb-true, eqb}
+use mathlib.Core.Bool.{and-false}
+use native.Mathlib.Nat.{two-pow-succ}
+use borrow.Author.Tests.{eqb-false}
 use lib.Count.{ones}
-use lib.Dec.{eqb}
 use Rattle.lines.specs.Line.{line}
 use Rattle.lines.specs.Gather.{gathered, drop_lowest}
 use Rattle.lines.proofs.Truth.{both_true, both_false, leb_iff}
@@ -71,6 +67,15 @@ halved_accepted r a e =
 pub reduce_turn : (n : ℕ) (r : Range) → idle r ≡ true → reduce_from (suc n) r ≡ reduce_from n (halved r)
 unfolding reduce_from
 reduce_turn n r e = ap (λ (t : Bool). cond t (reduce_from n (halved r)) r) e
+
+pub reduce_next : (k : ℕ) (r : Range) → k < 32 → idle r ≡ true → reduce_from (32 - (k + 1)) (halved r) ≡ reduce_from (32 - k) r
+reduce_next k r h e =
+    let more : 32 - k ≡ suc (32 - (k + 1)) = omega arith in
+    rw more (sym (reduce_turn (32 - (k + 1)) r e))
+
+pub reduce_end : (n : ℕ) (r : Range) → n ≡ 0 → reduce_from n r ≡ r
+unfolding reduce_from
+reduce_end n r e = rw e
 
 pub reduce_stop : (n : ℕ) (r : Range) → idle r ≡ false → reduce_from n r ≡ r
 unfolding reduce_from

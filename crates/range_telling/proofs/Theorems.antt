@@ -1,11 +1,10 @@
 -- What is promised of lines that cannot matter in a range and of what tells two ranges apart. Assumes nothing.
-use mathlib.Core.Path.{◌≡◌, sym, ap, subst, ◌∙◌}
-use mathlib.Core.List.{List}
-use mathlib.Core.Logic.{◌↔◌}
-use Prim.Native.Nat.{ℕ, suc, ◌+◌, ◌^◌, ◌<◌, ◌∣◌}
+use Rattle.std.proofs.Common.{◌≡◌, sym, ap, subst, ◌∙◌, List, ◌↔◌, ℕ, suc, ◌+◌, ◌^◌, ◌<◌}
+use Prim.Native.Nat.{◌∣◌}
 use lib.Count.{ones_in}
 use Rattle.lines.specs.Line.{line}
 use Rattle.lut.specs.Telling.{HitAlike, Says}
+use Rattle.lut.specs.declared.Telling.{Telling}
 use Rattle.range.specs.declared.Range.{Range}
 use Rattle.range.specs.Rule.{hit, Accepted}
 use Rattle.range.specs.Words.{words_of}
@@ -37,6 +36,10 @@ dropped_exactly r a words = (
 pub reduces : (r : Range) → Accepted r → Reduces r (reduce_of r)
 reduces r a = record { accepted = (reduced r a).accepted; alike = λ i h. sym (reduced_alike r i); words = dropped_words r a }
 
+-- the same of what equals it
+pub answer_reduces : (r q : Range) → q ≡ reduce_of r → Accepted r → Reduces r q
+answer_reduces r q e a = rw e (reduces r a)
+
 -- with those lines dropped, two ranges have the same words exactly when no sample tells them apart [D3.4]
 pub equal_dropped_words_iff_alike : (a b : Range) → Accepted a → Accepted b → (v w : List ℕ) → DroppedWords a v → DroppedWords b w
     → (v ≡ w) ↔ HitAlike (hit a) (hit b)
@@ -60,3 +63,7 @@ equal_dropped_words_iff_alike a b aa ab v w dv dw = (equal_alike, alike_equal)
 -- the sample that is shown tells the two apart; none is shown where none does [D3.6, N6]
 pub telling_says : (old new : Range) → Accepted old → Accepted new → Says (hit old) (hit new) (range_telling old new)
 telling_says = tells
+
+-- the same of what equals it
+pub answer_says : (old new : Range) (t : Telling) → t ≡ range_telling old new → Accepted old → Accepted new → Says (hit old) (hit new) t
+answer_says old new t e ao an = rw e (telling_says old new ao an)

@@ -1,14 +1,9 @@
 -- Every masked line of a reduced range matters: a value at which changing the line's bit changes the hit. Assumes nothing.
-use mathlib.Core.Path.{◌≡◌, refl, sym, ap, ◌∙◌}
-use mathlib.Core.Bool.{Bool, true, false, ◌&&◌, and-false, true≢false}
-use mathlib.Core.Logic.{◌⊎◌, inl, inr}
-use Prim.Native.Nat.{ℕ, zero, suc, ◌+◌, ◌-◌, ◌/◌, ◌%◌, ◌^◌, ◌≤◌, ◌<◌}
+use Rattle.std.proofs.Common.{◌≡◌, refl, sym, ap, ◌∙◌, Bool, true, false, ◌&&◌, true≢false, ◌⊎◌, inl, inr, ℕ, zero, suc, ◌+◌, ◌-◌, ◌/◌, ◌%◌, ◌^◌, ◌≤◌, ◌<◌, arith, le-leb, leb, pow_pos}
+use mathlib.Core.Bool.{and-false}
 use native.Mathlib.Nat.{two-pow-succ}
 use native.Mathlib.Decide.{dec_le}
-use native.Mathlib.Omega.{arith}
-use borrow.Author.Tests.{le-leb, lt-leb}
-use lib.Dec.{leb}
-use lib.Pow.{pow_pos}
+use borrow.Author.Tests.{lt-leb}
 use Rattle.lines.specs.Line.{line, flip_line}
 use Rattle.lines.proofs.Digit.{bit_lt, line_half, line_zero}
 use Rattle.lines.proofs.Flip.{flip_up, flip_down}

@@ -1,5 +1,5 @@
 // What tells two ranges apart: the lines that cannot matter are dropped, and then the bounds and the masks are compared.
-ghost use Rattle.std.specs.Prelude.{◌≡◌, false, ◌-◌, ◌%◌, ◌^◌, ◌<◌, min, max, leb};
+ghost use Rattle.std.specs.Prelude.{◌≡◌, ◌≢◌, false, ◌-◌, ◌^◌, ◌<◌, leb};
 ghost use Rattle.lines.specs.Line.{line, flip_line};
 ghost use Rattle.lut.specs.Telling.{Says};
 ghost use Rattle.range.specs.Rule.{hit_of, hit, Accepted};
@@ -11,35 +11,30 @@ use lut::{Input, Telling};
 use range::{Range, range_hit};
 
 // Whether the bounds are at least 2 ^ j apart.
-fn spans(lower: u32, upper: u32, j: u32) -> bool
+fn spans(r: Range, j: u32) -> bool
     requires { j < 32 }
-    ensures { result ≡ leb (2 ^ j) (upper - lower) }
+    ensures { result ≡ leb (2 ^ j) (r.upper - r.lower) }
 {
-    if lower <= upper {
-        return 1u32 << j <= upper - lower;
-    }
-    false
+    1u32 << j <= r.upper.saturating_sub(r.lower)
 }
 
 // A number at which changing bit j changes whether it lies within the bounds.
-fn turn_value(lower: u32, upper: u32, j: u32) -> u32
-    requires { (j < 32) × ((lower % 2 ≡ 1 → ⊥) → upper % 2 ≡ 0) }
-    ensures { result ≡ turn_value lower upper j }
+fn turn_value(r: Range, j: u32) -> u32
+    requires bit { j < 32 }
+    requires busy { idle r ≡ false }
+    ensures { result ≡ turn_value r.lower r.upper j }
 {
-    if lower % 2 == 1 {
-        if lines::line_value(lower, j) == 0 {
-            if spans(lower, upper, j) {
-                return lower - 1;
-            }
+    if r.lower % 2 == 1 {
+        if lines::line_value(r.lower, j) == 0 && spans(r, j) {
+            r.lower - 1
+        } else {
+            r.lower
         }
-        return lower;
+    } else if lines::line_value(r.upper, j) == 1 && spans(r, j) {
+        r.upper + 1
+    } else {
+        r.upper
     }
-    if lines::line_value(upper, j) == 1 {
-        if spans(lower, upper, j) {
-            return upper + 1;
-        }
-    }
-    upper
 }
 
 // The sample with line i changed.
@@ -52,12 +47,12 @@ fn flip_line(sample: u32, i: u32) -> u32
 
 // A sample at which changing the masked line i changes the range's hit.
 fn turn_sample(r: Range, i: u32) -> u32
-    requires { (i < 32) × (line r.mask i ≡ 1) × (idle r ≡ false) }
+    requires within { i < 32 }
+    requires masked { line r.mask i ≡ 1 }
+    requires busy { idle r ≡ false }
     ensures { result ≡ turn_sample r i }
 {
-    let j = lines::rank(r.mask, i);
-    let v = turn_value(r.lower, r.upper, j);
-    lines::scatter(v, r.mask)
+    lines::scatter(turn_value(r, lines::rank(r.mask, i)), r.mask)
 }
 
 fn hits(r: Range, sample: u32) -> bool
@@ -68,7 +63,9 @@ fn hits(r: Range, sample: u32) -> bool
 
 // Line i is masked in a and not in b.
 fn tell_line(a: Range, b: Range, i: u32) -> u32
-    requires { (i < 32) × (line a.mask i ≡ 1) × (idle a ≡ false) }
+    requires within { i < 32 }
+    requires masked { line a.mask i ≡ 1 }
+    requires busy { idle a ≡ false }
     ensures { result ≡ tell_line a b i }
 {
     let s = turn_sample(a, i);
@@ -78,26 +75,14 @@ fn tell_line(a: Range, b: Range, i: u32) -> u32
     s
 }
 
-// The lowest line at which two masks differ; 32 if there is none.
-fn first_differ(m: u32, n: u32) -> u32
-    ensures { result ≡ first_differ 32 m n }
-{
-    let mut i: u32 = 0;
-    while i < 32 {
-        if lines::line_value(m, i) != lines::line_value(n, i) {
-            return i;
-        }
-        i += 1;
-    }
-    i
-}
-
-// The masks differ.
+// The masks differ, and the lowest line at which they do is masked in one of the two.
 fn tell_masks(a: Range, b: Range) -> u32
-    requires { (a.mask ≡ b.mask → ⊥) × (idle a ≡ false) × (idle b ≡ false) }
+    requires differ { a.mask ≢ b.mask }
+    requires first_busy { idle a ≡ false }
+    requires second_busy { idle b ≡ false }
     ensures { result ≡ tell_masks a b (first_differ 32 a.mask b.mask) }
 {
-    let i = first_differ(a.mask, b.mask);
+    let i = (a.mask ^ b.mask).trailing_zeros();
     if lines::line_value(a.mask, i) == 1 {
         tell_line(a, b, i)
     } else {
@@ -105,27 +90,15 @@ fn tell_masks(a: Range, b: Range) -> u32
     }
 }
 
-fn lesser(x: u32, y: u32) -> u32
-    ensures { result ≡ min x y }
-{
-    if x < y { x } else { y }
-}
-
-fn greater(x: u32, y: u32) -> u32
-    ensures { result ≡ max x y }
-{
-    if x < y { y } else { x }
-}
-
 // The masks are equal.
 fn tell_bounds(a: Range, b: Range) -> Telling
     ensures { result ≡ tell_bounds a b }
 {
     if a.lower != b.lower {
-        return Telling::Apart(Input::Sample(lines::scatter(lesser(a.lower, b.lower), a.mask)));
+        return Telling::Apart(Input::Sample(lines::scatter(a.lower.min(b.lower), a.mask)));
     }
     if a.upper != b.upper {
-        return Telling::Apart(Input::Sample(lines::scatter(greater(a.upper, b.upper), a.mask)));
+        return Telling::Apart(Input::Sample(lines::scatter(a.upper.max(b.upper), a.mask)));
     }
     Telling::Alike
 }

@@ -1,9 +1,10 @@
 -- Which verdict a select, a chain, an item and a stream have, by the tests that hold: as the checks of the code go.
 -- Assumes nothing.
-use Prim.Native.Nat.{ℕ, zero, suc, ◌+◌, ◌*◌, ◌≤◌, ◌<◌, ◌-◌}
+use Prim.Native.Nat.{ℕ, suc, ◌+◌, ◌*◌, ◌≤◌, ◌<◌, ◌-◌}
 use mathlib.Core.Path.{◌≡◌, refl, sym, ap, ◌∙◌}
 use mathlib.Core.Bool.{not}
 use mathlib.Core.List.{List, [], ◌∷◌}
+use native.Mathlib.Nat.{sub_self}
 use native.Mathlib.Omega.{arith}
 use borrow.Author.Tests.{lt-leb, le-leb, lt-ltb, le-ltb, eq-eqb, ne_eqb}
 use lib.Dec.{eqb}
@@ -86,18 +87,17 @@ command_within op at s e = omega (arith, (command_ok op at (drop at s) e).0, len
 -- ---- so many chains of as many words each
 
 module _ (words due from : ℕ) (s : List ℕ) where
-  pub chains_turn : (left : ℕ) → 0 < left → chains_verdict (replicate left words) due from (drop from s)
+  -- of `count` chains from number i on
+  pub chains_turn : (count i : ℕ) → i < count → chains_verdict (replicate (count - i) words) due from (drop from s)
       ≡ and_then (chains_verdict (words ∷ []) due from (drop from s))
-      (chains_verdict (replicate (left - 1) words) (due + 1) (from + (5 + 5 * words)) (drop (from + (5 + 5 * words)) s))
-  chains_turn zero h = absurd (omega arith)
-  chains_turn (suc n) h =
-      let m : suc n - 1 ≡ n = omega arith in
-      rw (m, ← drop-drop (5 + 5 * words) from s) (chains_next words (replicate n words) due from (drop from s))
+      (chains_verdict (replicate (count - (i + 1)) words) (due + 1) (from + (5 + 5 * words)) (drop (from + (5 + 5 * words)) s))
+  chains_turn count i h =
+      let m : count - i ≡ suc (count - (i + 1)) = omega arith in
+      rw (m, ← drop-drop (5 + 5 * words) from s) (chains_next words (replicate (count - (i + 1)) words) due from (drop from s))
 
-  pub chains_end : (left : ℕ) → left ≤ 0 → chains_verdict (replicate left words) due from (drop from s) ≡ Accepted
+  pub chains_end : (count : ℕ) → chains_verdict (replicate (count - count) words) due from (drop from s) ≡ Accepted
   unfolding chains_verdict
-  chains_end zero h = refl
-  chains_end (suc n) h = absurd (omega arith)
+  chains_end count = rw (sub_self count)
 
   pub chain_within : chains_verdict (words ∷ []) due from (drop from s) ≡ Accepted → from + (5 + 5 * words) ≤ length s
   unfolding size_of

@@ -1,9 +1,9 @@
 -- Commands judged and read in one pass, as lists. Assumes nothing.
-use Prim.Native.Nat.{ℕ, zero, suc, ◌+◌, ◌*◌, ◌≤◌, ◌<◌, ◌-◌}
-use mathlib.Core.Path.{◌≡◌, refl, sym, ap, ◌∙◌}
+use Prim.Native.Nat.{ℕ, suc, ◌+◌, ◌*◌, ◌≤◌, ◌<◌, ◌-◌}
+use mathlib.Core.Path.{◌≡◌, sym, ap, ◌∙◌}
 use mathlib.Core.List.{List, [], ◌∷◌, ◌++◌, append_assoc}
 use native.Mathlib.Decide.{dec_lt}
-use native.Mathlib.Nat.{le_refl}
+use native.Mathlib.Nat.{le_refl, sub_self, mul-le-mul_right}
 use native.Mathlib.Omega.{arith}
 use borrow.Rule.Slice.PartMut.{mid_of, post_of, put_mid}
 use lib.Dec.{leb, leb→le, lit≤}
@@ -18,6 +18,7 @@ use Rattle.command.proofs.Checked.{length_words}
 use Rattle.kinds.specs.Table.{sections, kind_of, chain_count, chain_length}
 use Rattle.kinds.proofs.Rows.{past}
 use Rattle.compiler.specs.Chains.{words_read}
+use Rattle.records.proofs.Bounds.{one_more}
 use Rattle.reader.specs.Judging.{chains_verdict}
 use Rattle.reader.specs.Taking.{Taken}
 
@@ -51,44 +52,57 @@ total_short k =
 pub total_of : (k count each : ℕ) → count ≡ chain_count k → each ≡ chain_length k → count * each ≤ 32
 total_of k count each ec ee = rw (ec, ee) (total_short k)
 
+pub chain_room : (k count each i : ℕ) → count ≡ chain_count k → each ≡ chain_length k → i < count → (i + 1) * each ≤ 32
+chain_room k count each i ec ee h =
+    let more : (i + 1) * each ≤ count * each = mul-le-mul_right each (omega arith) in
+    omega (arith, total_of k count each ec ee)
+
 -- ---- the words of so many chains, one after the other
 
--- what is still to be taken, of `left` chains from `at` on
-pub words_more : (left each at : ℕ) (item : List ℕ) → 0 < left
-    → words_read (replicate left each) (drop at item) ≡ words_in each (drop (at + 5) item) ++ words_read (replicate (left - 1) each) (drop (at + (5 + 5 * each)) item)
+-- what is still to be taken, of `count` chains from number i on
+pub words_more : (count each i at : ℕ) (item : List ℕ) → i < count
+    → words_read (replicate (count - i) each) (drop at item)
+    ≡ words_in each (drop (at + 5) item) ++ words_read (replicate (count - (i + 1)) each) (drop (at + (5 + 5 * each)) item)
 unfolding words_read
-words_more zero each at item h = absurd (omega arith)
-words_more (suc left) each at item h =
-    let e : suc left - 1 ≡ left = omega arith in
+words_more count each i at item h =
+    let e : count - i ≡ suc (count - (i + 1)) = omega arith in
     rw (e, ← drop-drop 5 at item, ← drop-drop (5 + 5 * each) at item)
 
-pub words_over : (left each at : ℕ) (item : List ℕ) → left ≤ 0 → words_read (replicate left each) (drop at item) ≡ []
+pub words_over : (count each at : ℕ) (item : List ℕ) → words_read (replicate (count - count) each) (drop at item) ≡ []
 unfolding words_read
-words_over zero each at item h = refl
-words_over (suc left) each at item h = absurd (omega arith)
+words_over count each at item = rw (sub_self count)
 
--- one chain more: its words go into the part of the room behind those that were taken before
-module _ (to each n : ℕ) (words ys s : List ℕ) (due from : ℕ) (r : Verdict) (h : to + each ≤ length words) (p : n ≡ each)
-    (size : length ys ≡ length (mid_of to n words))
-    (t : Taken (chains_verdict (length (mid_of to n words) ∷ []) due from (drop from s)) (words_in (length (mid_of to n words)) (drop (from + 5) s)) r ys) where
-  part : length (mid_of to n words) ≡ each
-  part = rw p (length-take-le each (drop to words) (omega (arith, length-drop to words)))
+-- chain i was taken: its words went into the part of the room behind those that were taken before
+module _ (count each i : ℕ) (h : i < count) (words ys s : List ℕ) (fits : count * each ≤ length words) (due from : ℕ) (r : Verdict) where
+  abbrev size : ℕ
+  size = (i + 1) * each - i * each
 
-  pub chain_answer : r ≡ chains_verdict (each ∷ []) due from (drop from s)
-  chain_answer = t.answer ∙ ap (λ (m : ℕ). chains_verdict (m ∷ []) due from (drop from s)) part
+  module _ (kept : length ys ≡ length (mid_of (i * each) size words))
+      (t : Taken (chains_verdict (length (mid_of (i * each) size words) ∷ []) due from (drop from s)) (words_in (length (mid_of (i * each) size words)) (drop (from + 5) s)) r ys) where
+    within : i * each + each ≤ length words
+    within =
+        let more : (i + 1) * each ≤ count * each = mul-le-mul_right each (omega arith) in
+        omega (arith, one_more i each)
 
-  pub chain_words_law : chains_verdict (each ∷ []) due from (drop from s) ≡ Accepted
-      → take (to + each) (put_mid to n words ys) ≡ take to words ++ words_in each (drop (from + 5) s)
-  chain_words_law a =
-      let vs : List ℕ = drop (from + 5) s in
-      let t' : Taken (chains_verdict (each ∷ []) due from (drop from s)) (words_in each vs) r ys = rw part at t in
-      let whole : length (take to words ++ ys) ≡ to + each =
-      length-append (take to words) ys ∙ omega (arith, length-take-le to words (omega arith), size, part) in
-      let is : ys ≡ words_in each vs =
-      sym (take_all (length (words_in each vs)) ys (omega (arith, size, part, length_words each vs))) ∙ t'.held a in
-      ap (take (to + each)) (sym (append_assoc (take to words) ys (post_of to n words)))
-      ∙ take_at (take to words ++ ys) (post_of to n words) (to + each) whole
-      ∙ ap (λ (zs : List ℕ). take to words ++ zs) is
+    part : length (mid_of (i * each) size words) ≡ each
+    part =
+        let n : size ≡ each = omega (arith, one_more i each) in
+        rw n (length-take-le each (drop (i * each) words) (omega (arith, within, length-drop (i * each) words)))
+
+    pub chain_answer : r ≡ chains_verdict (each ∷ []) due from (drop from s)
+    chain_answer = rw part at t.answer
+
+    pub chain_words_law : chains_verdict (each ∷ []) due from (drop from s) ≡ Accepted
+        → take ((i + 1) * each) (put_mid (i * each) size words ys) ≡ take (i * each) words ++ words_in each (drop (from + 5) s)
+    chain_words_law a =
+        let vs = words_in each (drop (from + 5) s) in
+        let to = i * each in
+        let whole : length (take to words ++ ys) ≡ (i + 1) * each =
+        length-append (take to words) ys ∙ omega (arith, length-take-le to words (omega (arith, within)), kept, part, one_more i each) in
+        let is : ys ≡ vs = sym (take_all (length vs) ys (omega (arith, kept, part, length_words each (drop (from + 5) s)))) ∙ (rw part at t).held a in
+        ap (take ((i + 1) * each)) (sym (append_assoc (take to words) ys (post_of to size words)))
+        ∙ take_at (take to words ++ ys) (post_of to size words) ((i + 1) * each) whole
+        ∙ ap (λ zs. take to words ++ zs) is
 
 -- words that stand at the start are there by their number too
 pub taken_front : (to : ℕ) (ws words : List ℕ) → to ≤ length words → take to words ≡ ws → take (length ws) words ≡ ws

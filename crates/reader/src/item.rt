@@ -2,50 +2,29 @@
 ghost use Rattle.std.specs.Prelude.{◌≡◌, [], ◌∷◌, ◌+◌, ◌≤◌, ◌<◌, length, drop};
 ghost use Rattle.buffer.specs.Verdict.{and_then};
 ghost use Rattle.command.specs.Reading.{number, loads_verdict, words_in};
-ghost use Rattle.kinds.specs.Table.{section_at, lengths_of};
+ghost use Rattle.kinds.specs.Table.{sections, section_at, slot_at, lengths_of};
 ghost use Rattle.compiler.specs.Chains.{words_read};
 ghost use Rattle.reader.specs.Judging.{first_verdict, chains_verdict};
 ghost use Rattle.reader.specs.Taking.{Taken};
 
 use buffer::Verdict;
 use command::{COMMAND_SIZE, LOAD, SELECT};
-use kinds::SECTIONS;
+use kinds::{Place, SECTIONS};
 
 // The refusal number of a select command's address.
 const BAD_ADDRESS: u8 = 15;
-
-// An item's first select, at `at`. `low` is the least address that may come.
-fn check_first(stream: &[u8], at: usize, low: u32, address: u32, section: usize) -> Verdict
-    requires { (address ≡ number (drop at stream.now)) × (section ≡ section_at address) }
-    ensures { result ≡ first_verdict low at (drop at stream.now) }
-{
-    let checked = command::check_command(stream, at, SELECT);
-    if let Verdict::Refused(number, place) = checked {
-        return Verdict::Refused(number, place);
-    }
-    if SECTIONS <= section {
-        return Verdict::Refused(BAD_ADDRESS, at);
-    }
-    if address < low {
-        return Verdict::Refused(BAD_ADDRESS, at);
-    }
-    Verdict::Accepted
-}
 
 // As many words as `into` has room for, from `at` on.
 fn take_words(stream: &[u8], at: usize, into: &mut [u32]) -> Verdict
     ensures { Taken (loads_verdict (length into.old) at (drop at stream.now)) (words_in (length into.old) (drop at stream.now)) result into.new }
 {
     let mut from = at;
-    let mut i: usize = 0;
-    while i < into.len() {
-        let checked = command::check_command(stream, from, LOAD);
-        if let Verdict::Refused(number, place) = checked {
+    for word in into.iter_mut() {
+        if let Verdict::Refused(number, place) = command::check_command(stream, from, LOAD) {
             return Verdict::Refused(number, place);
         }
-        into[i] = command::number_at(stream, from);
+        *word = command::number_at(stream, from);
         from += COMMAND_SIZE;
-        i += 1;
     }
     Verdict::Accepted
 }
@@ -54,8 +33,7 @@ fn take_words(stream: &[u8], at: usize, into: &mut [u32]) -> Verdict
 fn take_chain(stream: &[u8], at: usize, due: u32, into: &mut [u32]) -> Verdict
     ensures { Taken (chains_verdict (length into.old ∷ []) due at (drop at stream.now)) (words_in (length into.old) (drop (at + 5) stream.now)) result into.new }
 {
-    let checked = command::check_command(stream, at, SELECT);
-    if let Verdict::Refused(number, place) = checked {
+    if let Verdict::Refused(number, place) = command::check_command(stream, at, SELECT) {
         return Verdict::Refused(number, place);
     }
     if command::number_at(stream, at) != due {
@@ -64,46 +42,59 @@ fn take_chain(stream: &[u8], at: usize, due: u32, into: &mut [u32]) -> Verdict
     take_words(stream, at + COMMAND_SIZE, into)
 }
 
-// All the chains of an item at `at`, the first at `address`, each other at the next one: their words, one after the
-// other.
-fn take_chains(stream: &[u8], at: usize, address: u32, section: usize, words: &mut [u32]) -> Verdict
-    requires { (address < 128) × (32 ≤ length words.old) }
-    ensures { Taken (chains_verdict (lengths_of section) address at (drop at stream.now)) (words_read (lengths_of section) (drop at stream.now)) result words.new }
-{
-    let each = kinds::chain_length(section);
-    let mut from = at;
-    let mut due = address;
-    let mut to: usize = 0;
-    let mut left = kinds::chain_count(section);
-    while 0 < left {
-        let end = to + each;
-        let taken = take_chain(stream, from, due, &mut words[to..end]);
-        if let Verdict::Refused(number, place) = taken {
-            return Verdict::Refused(number, place);
-        }
-        from += COMMAND_SIZE + COMMAND_SIZE * each;
-        due += 1;
-        to = end;
-        left -= 1;
-    }
-    Verdict::Accepted
+// An item of a stream: where its first select stands, the address there, and the section and slot of the address.
+#[derive(Clone, Copy)]
+pub(crate) struct Item<'a> {
+    pub(crate) stream: &'a [u8],
+    pub(crate) at: usize,
+    pub(crate) address: u32,
+    pub(crate) place: Place,
+    ghost known: { (address ≡ number (drop at stream.now)) × (place.section ≡ section_at address) × (place.slot ≡ slot_at (section_at address) address) },
 }
 
-// The item at `at`: its first select, and all its chains.
-pub(crate) fn take_item(
-    stream: &[u8],
-    at: usize,
-    low: u32,
-    address: u32,
-    section: usize,
-    words: &mut [u32],
-) -> Verdict
-    requires { (address ≡ number (drop at stream.now)) × (section ≡ section_at address) × (32 ≤ length words.old) }
-    ensures { Taken (and_then (first_verdict low at (drop at stream.now)) (chains_verdict (lengths_of section) address at (drop at stream.now))) (words_read (lengths_of section) (drop at stream.now)) result words.new }
-{
-    let first = check_first(stream, at, low, address, section);
-    if let Verdict::Refused(number, place) = first {
-        return Verdict::Refused(number, place);
+impl Item<'_> {
+    // Its first select. `low` is the least address that may come.
+    fn check_first(&self, low: u32) -> Verdict
+        ensures { let i = self.now in result ≡ first_verdict low i.at (drop i.at i.stream.now) }
+    {
+        let select = command::check_command(self.stream, self.at, SELECT);
+        if let Verdict::Refused(number, place) = select {
+            return Verdict::Refused(number, place);
+        }
+        if SECTIONS <= self.place.section || self.address < low {
+            return Verdict::Refused(BAD_ADDRESS, self.at);
+        }
+        Verdict::Accepted
     }
-    take_chains(stream, at, address, section, words)
+
+    // All its chains, the first at its address, each other at the next one: their words, one after the other.
+    fn take_chains(&self, words: &mut [u32]) -> Verdict
+        requires { (self.now.address < 128) × (32 ≤ length words.old) }
+        ensures { let i = self.now in let s = drop i.at i.stream.now in
+            Taken (chains_verdict (lengths_of i.place.section) i.address i.at s) (words_read (lengths_of i.place.section) s) result words.new }
+    {
+        let each = kinds::chain_length(self.place.section);
+        let mut from = self.at;
+        for i in 0..kinds::chain_count(self.place.section) {
+            let due = self.address + i as u32;
+            let part = &mut words[i * each..(i + 1) * each];
+            if let Verdict::Refused(number, place) = take_chain(self.stream, from, due, part) {
+                return Verdict::Refused(number, place);
+            }
+            from += COMMAND_SIZE + COMMAND_SIZE * each;
+        }
+        Verdict::Accepted
+    }
+
+    // Its first select, and all its chains.
+    pub(crate) fn take(&self, low: u32, words: &mut [u32]) -> Verdict
+        requires { 32 ≤ length words.old }
+        ensures { let i = self.now in let s = drop i.at i.stream.now in
+            Taken (and_then (first_verdict low i.at s) (chains_verdict (lengths_of i.place.section) i.address i.at s)) (words_read (lengths_of i.place.section) s) result words.new }
+    {
+        if let Verdict::Refused(number, place) = self.check_first(low) {
+            return Verdict::Refused(number, place);
+        }
+        self.take_chains(words)
+    }
 }

@@ -1,7 +1,7 @@
 // The walk over a stream, item by item: each is judged, and its record kept at once; 16 when an item's last word is in.
 ghost use Rattle.reader.specs.Taking.{Empty, Walked};
 
-use crate::item::take_item;
+use crate::item::Item;
 use crate::keep::keep_record;
 use buffer::Verdict;
 use kinds::MOST_WORDS;
@@ -20,11 +20,16 @@ pub(crate) fn walk(stream: &[u8], room: &mut [u8]) -> Verdict
     while at < stream.len() {
         let address = command::number_at(stream, at);
         let place = kinds::place_at(address);
-        let taken = take_item(stream, at, low, address, place.section, &mut words);
-        if let Verdict::Refused(number, place) = taken {
+        let item = Item {
+            stream,
+            at,
+            address,
+            place,
+        };
+        if let Verdict::Refused(number, place) = item.take(low, &mut words) {
             return Verdict::Refused(number, place);
         }
-        if keep_record(room, place.section, place.slot, &words) == 0 {
+        if keep_record(room, place, &words) == 0 {
             return Verdict::Refused(BAD_WORDS, at);
         }
         low = address + 1;

@@ -22,11 +22,9 @@ fn part<'a>(room: &'a [u8], section: usize) -> &'a [u8]
 fn sheet_size(room: &[u8]) -> usize
     ensures { result ≡ length (parts_from sections 0 room.now) }
 {
-    let mut size: usize = 0;
-    let mut section: usize = 0;
-    while section < SECTIONS {
+    let mut size = 0;
+    for section in 0..SECTIONS {
         size += part(room, section).len();
-        section += 1;
     }
     size
 }
@@ -39,13 +37,11 @@ pub(crate) fn put_sheet(out: &mut [u8], room: &[u8]) -> Outcome
     if out.len() < needed {
         return Outcome::Refused(OUTPUT_TOO_SHORT, needed);
     }
-    let mut at: usize = 0;
-    let mut section: usize = 0;
-    while section < SECTIONS {
+    let mut at = 0;
+    for section in 0..SECTIONS {
         let bytes = part(room, section);
         buffer::put_bytes(&mut out[at..], bytes);
         at += bytes.len();
-        section += 1;
     }
     Outcome::Done(needed)
 }

@@ -17,13 +17,13 @@ pub fn slot_digits(slot: u8) -> [u8; 2]
     [b'0' + slot / 10, b'0' + slot % 10]
 }
 
-pub fn label<'a>(bytes: &'a [u8]) -> &'a [u8]
+pub fn label(bytes: &[u8]) -> &[u8]
     ensures { result.now ≡ label_of bytes.now }
 {
     peek::prefix(peek::suffix(bytes, 1), LABEL_SIZE)
 }
 
-pub fn description<'a>(bytes: &'a [u8]) -> &'a [u8]
+pub fn description(bytes: &[u8]) -> &[u8]
     ensures { result.now ≡ description_of bytes.now }
 {
     peek::suffix(bytes, 1 + LABEL_SIZE)

@@ -8,21 +8,21 @@ use crate::LABEL_SIZE;
 pub fn most(section: usize) -> usize
     ensures { result ≡ most_of section }
 {
-    let row = kinds::row_of(section);
-    row.most
+    kinds::row_of(section).most
 }
 
 // How many bytes a record has.
+#[tactic(auto, using(kinds::proofs::Rows::description_byte))]
 pub fn record_size(section: usize) -> usize
     ensures { result ≡ record_size section }
 {
-    let row = kinds::row_of(section);
-    1 + LABEL_SIZE + row.size
+    1 + LABEL_SIZE + kinds::row_of(section).size
 }
 
 // How many bytes a section of so many records has, its count included.
+#[tactic(auto, using(crate::proofs::Bounds::section_bound))]
 pub fn section_size(section: usize, count: u8) -> usize
     ensures { result ≡ section_size section count }
 {
-    1 + (count as usize) * record_size(section)
+    1 + usize::from(count) * record_size(section)
 }

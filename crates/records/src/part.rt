@@ -6,6 +6,7 @@ use crate::fields::slot;
 use crate::layout::record_size;
 
 // How many whole records a section's part holds.
+#[tactic(auto, unfolding(crate::specs::Records::record_count))]
 pub fn record_count(part: &[u8], number: usize) -> usize
     ensures { result ≡ record_count number part.now }
 {
@@ -14,7 +15,8 @@ pub fn record_count(part: &[u8], number: usize) -> usize
 
 // The record of a section's part that starts at a cursor, if it is whole and has that slot; empty if not.
 // The cursor behind it is `at` and its length.
-pub fn record_with<'a>(part: &'a [u8], number: usize, at: usize, with: u8) -> &'a [u8]
+#[tactic(auto, using(crate::proofs::Records::front_short, crate::proofs::Records::front_here, crate::proofs::Records::front_other))]
+pub fn record_with(part: &[u8], number: usize, at: usize, with: u8) -> &[u8]
     ensures { result.now ≡ front with (records_in number (drop at part.now)) }
 {
     let size = record_size(number);

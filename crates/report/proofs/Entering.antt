@@ -1,14 +1,12 @@
 -- The loop over the lines: what is still to be written and counted makes what was to be. Assumes nothing.
 use Prim.Native.Nat.{ℕ, ◌+◌, ◌^◌, ◌≤◌, ◌<◌}
 use mathlib.Core.Path.{◌≡◌, refl, ap, ◌∙◌}
-use mathlib.Core.List.{List, ◌∷◌}
-use native.Mathlib.Decide.{dec_lt}
+use mathlib.Core.List.{List, [], ◌∷◌}
 use native.Mathlib.Omega.{arith}
-use lib.Dec.{eqb, eqb→eq}
-use lib.ListN.{length, get_or, set, replicate, length-set, get_or-eq_default}
+use Rattle.std.proofs.lemmas.List.{get_or-replicate}
+use lib.ListN.{length, get_or, set, replicate, length-set}
 use Rattle.buffer.specs.Room.{Wrote}
 use Rattle.buffer.proofs.Left.{Left, left_start, left_turn, left_end}
-use Rattle.lines.proofs.Computed.{every_below_law}
 use Rattle.lut.specs.declared.Telling.TheVariants.{Alike, Apart}
 use Rattle.sheet.specs.Parsed.{record_with}
 use Rattle.sheet.specs.declared.Judged.{Judged}
@@ -16,9 +14,8 @@ use Rattle.findings.specs.declared.Cursor.{Cursor}
 use Rattle.findings.specs.declared.Finding.{Finding}
 use Rattle.findings.specs.declared.Finding.TheVariants.{New, Gone, Name, Changed}
 use Rattle.findings.specs.declared.Line.{Line}
-use Rattle.findings.specs.declared.Step.{Step}
 use Rattle.findings.specs.Findings.{notice_lines}
-use Rattle.findings.specs.Walk.{lines_at, step_lines}
+use Rattle.findings.specs.Walk.{lines_at}
 use Rattle.report.specs.Page.{entry_text, entries_text, sort_of, how_many, entry_room, longest_body}
 use Rattle.report.proofs.Lengths.{entries_most}
 use Rattle.report.proofs.Counting.{Counted, counted_turn, few}
@@ -29,12 +26,6 @@ sort_small Gone = omega arith
 sort_small Name = omega arith
 sort_small (Changed Alike) = omega arith
 sort_small (Changed (Apart input)) = omega arith
-
-zero_at : (s : ℕ) → ◌≡◌ {A = ℕ} (get_or (replicate 5 0) s 0) 0
-zero_at s = elim (dec_lt s 5) [
-  | yes h ↦ eqb→eq _ _ (every_below_law 5 (λ s. eqb (get_or (replicate 5 0) s 0) 0) tt s h)
-  | no h ↦ get_or-eq_default (replicate 5 0) 0 {n = s} (omega arith)
-]
 
 -- the room suffices; so much of the text is left, and so many lines are not yet counted
 pub record Entering (old new : List ℕ) (olds news : Judged) (out₀ out counts : List ℕ) (at : ℕ) (here : Cursor) : Type 0 where
@@ -55,30 +46,23 @@ module _ (old new : List ℕ) (olds news : Judged) where
       })
     where
       zeros : Counted (replicate 5 0) (notice_lines old new) (notice_lines old new)
-      zeros s h = rw (zero_at s) (omega arith)
+      zeros s h = rw (get_or-replicate {A = ℕ} 5 s 0 0 h) (omega arith)
 
-  module _ (out₀ out counts : List ℕ) (at : ℕ) (here : Cursor) (n : Entering old new olds news out₀ out counts at here) (r : Step)
-      (step : lines_at old new olds news here ≡ step_lines (lines_at old new olds news) r) where
-    pub entering_end : r ≡ Step.End
+  module _ (out₀ out counts : List ℕ) (at : ℕ) (here : Cursor) (n : Entering old new olds news out₀ out counts at here) where
+    -- no line is left
+    pub entering_end : lines_at old new olds news here ≡ []
         → Wrote 0 (entries_text old new (notice_lines old new)) out₀ out at × ((s : ℕ) → s < 5 → get_or counts s 0 ≡ how_many s (notice_lines old new))
     unfolding entries_text how_many
-    entering_end e =
-        let none = step ∙ ap (step_lines (lines_at old new olds news)) e in
+    entering_end none =
         (left_end 0 _ _ _ _ _ n.left (ap (entries_text old new) none), (λ s h. let c = rw none at (n.counted s h) in omega (arith, c)))
 
-    module _ (l : Line) (next : Cursor) (e : r ≡ Step.Found l next) where
-      some : lines_at old new olds news here ≡ l ∷ lines_at old new olds news next
-      some = step ∙ ap (step_lines (lines_at old new olds news)) e
-
+    module _ (l : Line) (next : Cursor) (some : lines_at old new olds news here ≡ l ∷ lines_at old new olds news next) where
       -- an entry fits, however long, and one line more is a number
       pub entering_room : at + entry_room ≤ length out
       entering_room = omega (arith, n.left.count, n.left.pending.size, n.room, entries_most old new)
 
       pub entering_few : get_or counts (sort_of l.finding) 0 + 1 < 2 ^ 64
       entering_few = omega (arith, n.counted (sort_of l.finding) (sort_small l.finding), few (sort_of l.finding) old new)
-
-      pub entering_less : length (lines_at old new olds news next) < length (lines_at old new olds news here)
-      entering_less = rw some (omega arith)
 
       pub entering_turn : (a b out' counts' : List ℕ) (at' : ℕ) → a ≡ record_with l.section l.slot old → b ≡ record_with l.section l.slot new
           → Wrote at (entry_text l a b) out out' at' → counts' ≡ set counts (sort_of l.finding) (get_or counts (sort_of l.finding) 0 + 1)

@@ -6,7 +6,7 @@ use mathlib.Core.Path.{◌≡◌, refl, sym, ap, ◌∙◌}
 use mathlib.Core.List.{List, [], ◌∷◌, ◌++◌, append_assoc}
 use native.Mathlib.Nat.{suc-mul}
 use native.Mathlib.Omega.{arith}
-use lib.Dec.{eqb}
+use Rattle.std.proofs.Common.{◌==◌}
 use lib.ListN.{length, get_or, length-append, length-take}
 use Rattle.compare.specs.Same.{same}
 use Rattle.lut.specs.declared.Input.{Input}
@@ -24,23 +24,16 @@ use Rattle.findings.specs.Findings.{line, unless_same, shared_lines, slot_lines,
 use Rattle.notice.specs.Text.{render}
 use Rattle.notice.proofs.Lengths.{line_most}
 use Rattle.notice.proofs.Lines.{render_length}
-use Rattle.report.specs.Words.{line_of, altered_bare, stated, sources_text, sources, names_in, altered_text, saying_text, ending_text}
+use Rattle.report.specs.Words.{line_of, altered_bare, stated, sources_text, altered_text, saying_text, ending_text}
 use Rattle.report.specs.Page.{label_text, labels_text, entry_text, entries_text, how_many, body_text, label_room, labels_room, entry_room, slots_of, longest_slot, longest_body}
-use Rattle.report.proofs.Naming.{names_most}
+use Rattle.report.proofs.Naming.{hits_most}
 use Rattle.report.proofs.Heads.{head_most}
 
 -- ---- an entry
 
-pub label_none : (r : List ℕ) → length r ≡ 0 → label_text r ≡ ascii "(no such slot)"
-label_none [] e = refl
-label_none (x ∷ r) e = absurd (omega arith)
-
--- a text and a label, in the pieces in which they are written
-pub label_some : (before r : List ℕ) → (length r ≡ 0 → ⊥) → before ++ label_text r ≡ (before ++ ascii "'") ++ (label_of r ++ ascii "'")
-label_some before [] n = absurd (n refl)
-label_some before (x ∷ r) n =
-    ap (λ (t : List ℕ). before ++ t) (append_assoc (ascii "'") (label_of (x ∷ r)) (ascii "'"))
-    ∙ sym (append_assoc before (ascii "'") (label_of (x ∷ r) ++ ascii "'"))
+pub label_some : (r : List ℕ) → false ≡ (length r == 0) → label_text r ≡ (ascii "'" ++ label_of r) ++ ascii "'"
+label_some [] e = cc
+label_some (x ∷ r) e = refl
 
 pub label_most : (r : List ℕ) → length (label_text r) ≤ label_room
 label_most [] = omega arith
@@ -50,11 +43,7 @@ labels_most : (old new : List ℕ) → length (labels_text old new) ≤ labels_r
 labels_most old new = simp length-append (omega (arith, label_most old, label_most new))
 
 sources_most : (pattern : ℕ) → length (sources_text pattern) ≤ 156
-sources_most pattern = simp length-append (omega (arith, go (eqb pattern 0)))
-  where
-    go : (b : Bool) → length (cond b (ascii " none") (names_in sources pattern)) ≤ 128
-    go true = omega arith
-    go false = names_most pattern
+sources_most pattern = simp length-append (omega (arith, hits_most pattern))
 
 bare_most : (k : ℕ) → length (line_of (altered_bare k)) ≤ 65
 bare_most k = go (get_or stated k false)

@@ -1,45 +1,24 @@
--- The names of the sources that hit, one after the other, by computed tests over the sixteen. Assumes nothing.
-use Prim.Native.Nat.{ℕ, zero, suc, ◌+◌, ◌-◌, ◌*◌, ◌/◌, ◌%◌, ◌≤◌, ◌<◌}
+-- The names of the sources that hit, one after the other. Assumes nothing.
+use Prim.Native.Nat.{ℕ, zero, suc, ◌+◌, ◌/◌, ◌%◌, ◌≤◌, ◌<◌}
 use Prim.Native.String.{String}
 use mathlib.Core.Bool.{Bool, true, false, cond}
-use mathlib.Core.Path.{◌≡◌, refl}
-use mathlib.Core.List.{List, [], ◌∷◌, ◌++◌}
+use mathlib.Core.Path.{◌≡◌, refl, ◌∙◌}
+use mathlib.Core.List.{List, [], ◌∷◌, ◌++◌, map}
 use native.Mathlib.Omega.{arith}
 use native.Mathlib.Numerals.{add-one}
-use lib.Ieee.Bits.{is_true}
-use lib.Dec.{eqb, eqb→eq}
-use lib.ListN.{length, get_or, take, drop, length-append}
-use Rattle.lines.proofs.Computed.{every_below_law}
-use Rattle.compare.specs.Same.{same}
-use Rattle.compare.proofs.Compare.{same_true}
+use lib.Dec.{eqb}
+use lib.ListN.{length, get_or, drop, length-append, drop_of_length-le}
 use Rattle.refusal.specs.Words.{ascii}
 use Rattle.report.specs.Words.{sources, names_in}
 
--- the names one behind the other, as the code has them
-abbrev pub all : List String → List ℕ
-all [] = []
-all (s ∷ ss) = ascii s ++ all ss
+-- the names as bytes, as the code has them
+abbrev pub names : List (List ℕ)
+names = map ascii sources
 
-passes : ℕ → Bool
-passes i = same (take (8 * i + 8 - 8 * i) (drop (8 * i) (all sources))) (ascii (get_or sources i ""))
-
-pub name_at : (i : ℕ) → i < 16 → take (8 * i + 8 - 8 * i) (drop (8 * i) (all sources)) ≡ ascii (get_or sources i "")
-unfolding same passes
-name_at i h = same_true _ _ (is_true _ (every_below_law 16 passes tt i h))
-
--- each has eight bytes
-abbrev pub piece : ℕ → ℕ → List ℕ
-piece i bits = cond (eqb (bits % 2) 0) [] (ascii (get_or sources i ""))
-
-eight : (i : ℕ) → i < 16 → length (ascii (get_or sources i "")) ≡ 8
-eight i h = eqb→eq _ _ (every_below_law 16 (λ i. eqb (length (ascii (get_or sources i ""))) 8) tt i h)
-
-pub piece_most : (i bits : ℕ) → i < 16 → length (piece i bits) ≤ 8
-piece_most i bits h = go (eqb (bits % 2) 0)
-  where
-    go : (b : Bool) → length (cond b [] (ascii (get_or sources i ""))) ≤ 8
-    go true = omega arith
-    go false = omega (arith, eight i h)
+name_at : (ss : List String) (i : ℕ) → get_or (map ascii ss) i [] ≡ ascii (get_or ss i "")
+name_at [] i = refl
+name_at (s ∷ ss) zero = refl
+name_at (s ∷ ss) (suc i) = name_at ss i
 
 -- those from one on
 on : (names : List String) (i bits : ℕ) → i < length names
@@ -49,12 +28,17 @@ on [] i bits h = absurd (omega arith)
 on (n ∷ ns) zero bits h = refl
 on (n ∷ ns) (suc i) bits h = rw (add-one (suc i)) (rw (add-one i) at (on ns i bits (omega arith)))
 
-pub names_on : (i bits : ℕ) → i < 16 → names_in (drop i sources) bits ≡ piece i bits ++ names_in (drop (i + 1) sources) (bits / 2)
-names_on i bits h = on sources i bits h
+module _ (i bits : ℕ) (h : i < 16) where
+  -- one that hits, and one that does not
+  pub hit_on : bits % 2 ≡ 1 → names_in (drop i sources) bits ≡ get_or names i [] ++ names_in (drop (i + 1) sources) (bits / 2)
+  hit_on e = on sources i bits h ∙ rw (e, name_at sources i)
 
-pub names_end : (bits : ℕ) → names_in (drop 16 sources) bits ≡ []
+  pub miss_on : (bits % 2 ≡ 1 → ⊥) → names_in (drop i sources) bits ≡ names_in (drop (i + 1) sources) (bits / 2)
+  miss_on n = let even : bits % 2 ≡ 0 = omega arith in on sources i bits h ∙ rw even
+
+pub names_end : (i bits : ℕ) → 16 ≤ i → names_in (drop i sources) bits ≡ []
 unfolding names_in
-names_end bits = refl
+names_end i bits h = rw (drop_of_length-le sources {i = i} h)
 
 total : List String → ℕ
 total [] = 0
@@ -72,3 +56,11 @@ most (n ∷ ns) bits = rw (length-append (cond (eqb (bits % 2) 0) [] (ascii n)) 
 pub names_most : (bits : ℕ) → length (names_in sources bits) ≤ 128
 unfolding total
 names_most bits = most sources bits
+
+-- of a pattern with no source that none hits
+pub hits_most : (bits : ℕ) → length (cond (eqb bits 0) (ascii " none") (names_in sources bits)) ≤ 128
+hits_most bits = go (eqb bits 0)
+  where
+    go : (b : Bool) → length (cond b (ascii " none") (names_in sources bits)) ≤ 128
+    go true = omega arith
+    go false = names_most bits

@@ -1,9 +1,10 @@
 // Head, entries and ending, one behind the other.
-ghost use Rattle.std.specs.Prelude.{◌≡◌, ◌++◌, ◌+◌, ◌≤◌, length, get_or};
+ghost use Rattle.std.specs.Prelude.{◌++◌, ◌+◌, ◌≤◌, length, get_or};
 ghost use Rattle.buffer.specs.Room.{Wrote};
 ghost use Rattle.report.specs.Page.{head_on};
 ghost use Rattle.report.specs.Words.{ending_text};
 
+use crate::SORTS;
 use crate::head::{put_counts, put_unaltered};
 use crate::put::put;
 
@@ -19,9 +20,8 @@ fn put_ending(out: &mut [u8], at: usize) -> usize
     )
 }
 
-fn put_head(out: &mut [u8], entries: usize, counts: &[usize]) -> usize
-    requires in_bounds { 150 ≤ length out.old }
-    requires counts_len { length counts.now ≡ 5 }
+fn put_head(out: &mut [u8], entries: usize, counts: &[usize; SORTS]) -> usize
+    requires { 150 ≤ length out.old }
     ensures { Wrote 0 (head_on entries (λ sort. get_or counts.now sort 0)) out.old out.new result }
 {
     if entries == 0 {
@@ -31,9 +31,9 @@ fn put_head(out: &mut [u8], entries: usize, counts: &[usize]) -> usize
 }
 
 // Of the entries' text, which has no bytes where there is no line.
-pub(crate) fn put_body(out: &mut [u8], entries: &[u8], counts: &[usize]) -> usize
-    requires entries_in_bounds { 150 + length entries.now + 754 ≤ length out.old }
-    requires counts_len { length counts.now ≡ 5 }
+#[tactic(auto, using(crate::proofs::Heads::head_most))]
+pub(crate) fn put_body(out: &mut [u8], entries: &[u8], counts: &[usize; SORTS]) -> usize
+    requires { 150 + length entries.now + 754 ≤ length out.old }
     ensures { Wrote 0 (head_on (length entries.now) (λ sort. get_or counts.now sort 0) ++ entries.now ++ ending_text) out.old out.new result }
 {
     let a = put_head(out, entries.len(), counts);

@@ -1,9 +1,10 @@
 // What stands above the lines.
-ghost use Rattle.std.specs.Prelude.{◌≡◌, ◌≤◌, ◌∷◌, length, get_or};
+ghost use Rattle.std.specs.Prelude.{◌≤◌, ◌∷◌, length, get_or};
 ghost use Rattle.buffer.specs.Room.{Wrote};
 ghost use Rattle.report.specs.Page.{counts_text};
 ghost use Rattle.report.specs.Words.{line_of, unaltered};
 
+use crate::SORTS;
 use crate::put::{put, put_number};
 
 // That nothing is altered.
@@ -19,9 +20,9 @@ pub(crate) fn put_unaltered(out: &mut [u8]) -> usize
 }
 
 // How many lines there are of each sort.
-pub(crate) fn put_counts(out: &mut [u8], counts: &[usize]) -> usize
-    requires in_bounds { 150 ≤ length out.old }
-    requires counts_len { length counts.now ≡ 5 }
+#[tactic(auto, using(crate::proofs::Heads::decimal_short))]
+pub(crate) fn put_counts(out: &mut [u8], counts: &[usize; SORTS]) -> usize
+    requires { 150 ≤ length out.old }
     ensures { Wrote 0 (counts_text (λ sort. get_or counts.now sort 0)) out.old out.new result }
 {
     let a = put_number(out, 0, b"\nLines by sort: NAME ", counts[0]);

@@ -1,6 +1,6 @@
 // The page for signing below the names of the two sheets: the count of the notice's lines by sort, each line with what it says, the words' meaning.
 // Promises: any bytes and any room are taken; the page is `body_text` of specs/, or a refusal that changes nothing.
-// Rests on: notice (the lines, the records of a slot), sheet (verdict, sections), records (labels), kinds, lut, refusal (words, digits), peek, buffer and io.
+// Rests on: notice (both sheets judged, the lines, the records of a slot), records (labels), kinds, lut, refusal (words, digits), buffer; sheet in the contract.
 #![tactic(auto)]
 
 mod body;
@@ -13,7 +13,7 @@ mod sources;
 ghost use Rattle.std.specs.Prelude.{length};
 ghost use Rattle.report.specs.Page.{Reported, ReportNumbered};
 
-use notice::Noticed;
+use notice::{Noticed, Sheets};
 
 // The line on a slot's two labels, and any line of the notice with what it says and its labels, at the most.
 const LABELS: usize = 27 + 2 * (8 + records::LABEL_SIZE);
@@ -32,19 +32,14 @@ pub fn report(old: &[u8], new: &[u8], out: &mut [u8]) -> Noticed
     ensures reported { Reported old.now new.now out.old result out.new }
     ensures report_numbered { ReportNumbered old.now new.now (length out.old) result }
 {
-    let first = sheet::judge_parts(old);
-    if first.refusal != 0 {
-        return Noticed::Old(first.refusal, first.place);
-    }
-    let second = sheet::judge_parts(new);
-    if second.refusal != 0 {
-        return Noticed::New(second.refusal, second.place);
-    }
+    let sheets = match Sheets::judge(old, new) {
+        Ok(sheets) => sheets,
+        Err(refused) => return refused,
+    };
     if out.len() < LONGEST {
         return Noticed::Short(LONGEST);
     }
-    let mut counts = [0usize; SORTS];
     let mut entries = [0u8; LONGEST];
-    let n = entry::put_entries(&mut entries, &mut counts, old, new, first, second);
+    let (n, counts) = entry::put_entries(&mut entries, &sheets);
     Noticed::Done(body::put_body(out, &entries[..n], &counts))
 }

@@ -8,7 +8,7 @@ use crate::put::put;
 use crate::sources::put_sources;
 use kinds::SECTIONS;
 use lut::{Input, Telling};
-use notice::Finding;
+use notice::{Finding, Line};
 
 // Whether ALTR without an input speaks of a state: an entry for each section, so that a new one has to be given its own.
 const STATED: [bool; SECTIONS] = [false, false, false, false, true];
@@ -16,11 +16,7 @@ const STATED: [bool; SECTIONS] = [false, false, false, false, true];
 fn is_stated(section: usize) -> bool
     ensures { result ≡ get_or stated section false }
 {
-    if SECTIONS <= section {
-        return false;
-    }
-    let table = STATED;
-    table[section]
+    STATED.get(section).copied().unwrap_or(false)
 }
 
 // ALTR where no input is shown.
@@ -57,8 +53,7 @@ fn put_altered(out: &mut [u8], at: usize, section: usize, input: Input) -> usize
 {
     match input {
         Input::Nothing => put_bare(out, at, section),
-        Input::Sample(_) => put_shown(out, at),
-        Input::Samples(_, _) => put_shown(out, at),
+        Input::Sample(_) | Input::Samples(_, _) => put_shown(out, at),
         Input::Sources(pattern) => {
             let next = put_shown(out, at);
             put_sources(out, next, pattern)
@@ -81,14 +76,14 @@ fn put_change(out: &mut [u8], at: usize, section: usize, telling: Telling) -> us
     }
 }
 
-pub(crate) fn put_saying(out: &mut [u8], at: usize, section: usize, finding: Finding) -> usize
+pub(crate) fn put_saying(out: &mut [u8], at: usize, line: Line) -> usize
     requires { at + 241 ≤ length out.old }
-    ensures { Wrote at (saying_text section finding) out.old out.new result }
+    ensures { Wrote at (saying_text line.section line.finding) out.old out.new result }
 {
-    match finding {
+    match line.finding {
         Finding::New => put(out, at, b"    The slot is in the new sheet only.\n"),
         Finding::Gone => put(out, at, b"    The slot is in the old sheet only.\n"),
         Finding::Name => put(out, at, b"    The label is another one.\n"),
-        Finding::Changed(telling) => put_change(out, at, section, telling),
+        Finding::Changed(telling) => put_change(out, at, line.section, telling),
     }
 }

@@ -1,6 +1,7 @@
 -- Labels met before: records of which none has an earlier one's label are those whose labels pairwise differ. Assumes
 -- nothing.
 use native.Mathlib.Nat.{zero-mul}
+use native.Mathlib.Numerals.{add-one}
 use native.Mathlib.Omega.{arith}
 use Prim.Native.Nat.{ℕ, zero, suc, ◌+◌, ◌-◌, ◌*◌, ◌<◌}
 use mathlib.Core.Bool.{Bool, true, false, ◌||◌, true≢false}
@@ -10,7 +11,7 @@ use lib.ListN.{length, get_or, take, drop}
 use lib.Seq.{drop-drop, take-take}
 use Rattle.lines.proofs.Truth.{neither}
 use Rattle.compare.specs.Same.{same}
-use Rattle.compare.proofs.Compare.{same_equal, same_false}
+use Rattle.compare.proofs.Compare.{same_equal, same_true, same_false}
 use Rattle.records.specs.Sections.{label_size, record_size, label_of}
 use Rattle.records.specs.Records.{records_from}
 use Rattle.records.proofs.Bounds.{times}
@@ -98,7 +99,7 @@ record_at_law k (suc n) rest (suc i) h =
     record_at_law k n (drop (record_size k) rest) i (omega arith)
     ∙ ap (take (record_size k)) (further i (record_size k) rest)
 
--- ---- the walk over the earlier records
+-- ---- the walk over the earlier records, which lie from `start` on
 
 -- one record more
 or_moved : (a b c : Bool) → a || (b || c) ≡ b || (a || c)
@@ -106,32 +107,45 @@ or_moved true true c = refl
 or_moved true false c = refl
 or_moved false b c = refl
 
-pub among_more : (label : List ℕ) (k n : ℕ) (rest : List ℕ)
+among_further : (label : List ℕ) (k n : ℕ) (rest : List ℕ)
     → among label (map label_of (records_from k (suc n) rest))
     ≡ same label (label_of (take (record_size k) (drop (n * record_size k) rest))) || among label (map label_of (records_from k n rest))
 unfolding among records_from
-among_more label k zero rest = rw (zero-mul (record_size k))
-among_more label k (suc n) rest =
+among_further label k zero rest = rw (zero-mul (record_size k))
+among_further label k (suc n) rest =
     let size = record_size k in
     let here = same label (label_of (take size rest)) in
     let far = same label (label_of (take size (drop (n * size) (drop size rest)))) in
     let later = among label (map label_of (records_from k n (drop size rest))) in
-    rw (← further n size rest) (ap (λ (b : Bool). here || b) (among_more label k n (drop size rest)) ∙ or_moved here far later)
+    rw (← further n size rest) (ap (λ b. here || b) (among_further label k n (drop size rest)) ∙ or_moved here far later)
 
--- a record's label is that of what begins with it
-pub label_cut : (k : ℕ) (rest : List ℕ) → label_of (take (record_size k) rest) ≡ take label_size (drop 1 rest)
-label_cut k rest = rw (drop_take 1 (record_size k) rest) (take-take label_size (record_size k - 1) (drop 1 rest) (omega arith))
+-- the label of record i
+abbrev pub label_at : (k start : ℕ) (s : List ℕ) (i : ℕ) → List ℕ
+label_at k start s i = label_of (take (record_size k) (drop (start + i * record_size k) s))
 
--- the label of the record at an offset, and those behind it
-pub among_first : (label : List ℕ) (k at n : ℕ) (s : List ℕ) → 0 < n
-    → among label (map label_of (records_from k n (drop at s)))
-    ≡ same label (take label_size (drop (at + 1) s)) || among label (map label_of (records_from k (n - 1) (drop (at + record_size k) s)))
-unfolding among records_from
-among_first label k at zero s h = absurd (omega arith)
-among_first label k at (suc n) s h =
-    let p : suc n - 1 ≡ n = omega arith in
-    rw (p, label_cut k (drop at s), drop-drop 1 at s, drop-drop (record_size k) at s)
+-- whether a label is among the first n
+abbrev pub met_by : (label : List ℕ) (k start n : ℕ) (s : List ℕ) → Bool
+met_by label k start n s = among label (map label_of (records_from k n (drop start s)))
 
-pub among_end : (label : List ℕ) (k : ℕ) (rest : List ℕ) → among label (map label_of (records_from k 0 rest)) ≡ false
-unfolding among records_from
-among_end label k rest = refl
+module _ (k start i : ℕ) (s : List ℕ) where
+  -- the label as the walks cut it out
+  pub label_cut : (size : ℕ) → size ≡ record_size k
+      → take (start + i * size + 1 + label_size - (start + i * size + 1)) (drop (start + i * size + 1) s) ≡ label_at k start s i
+  label_cut size e =
+      let at = start + i * record_size k in
+      let n : at + 1 + label_size - (at + 1) ≡ label_size = omega arith in
+      let cut : label_of (take (record_size k) (drop at s)) ≡ take label_size (drop 1 (drop at s)) =
+      rw (drop_take 1 (record_size k) (drop at s)) (take-take label_size (record_size k - 1) (drop 1 (drop at s)) (omega arith)) in
+      rw (e, n, cut, drop-drop 1 at s)
+
+  pub met_none : (label : List ℕ) → met_by label k start 0 s ≡ false
+  unfolding among records_from
+  met_none label = refl
+
+  pub met_more : (label : List ℕ) → met_by label k start (i + 1) s ≡ same label (label_at k start s i) || met_by label k start i s
+  met_more label = rw (add-one i, among_further label k i (drop start s), drop-drop (i * record_size k) start s)
+
+  pub met_at : (label : List ℕ) (n : ℕ) → i < n → same label (label_at k start s i) ≡ true → met_by label k start n s ≡ true
+  met_at label n h e =
+      among_some label (records_from k n (drop start s)) i (omega (arith, records_length k n (drop start s)))
+      (rw (record_at_law k n (drop start s) i h, drop-drop (i * record_size k) start s) (sym (same_true label (label_at k start s i) e)))

@@ -71,13 +71,11 @@ pub refused_numbered : (s : List ℕ) → (verdict_number (verdict s) ≡ 0 → 
 refused_numbered s = refusal_is (verdict s)
 
 -- an answer that is the verdict has its numbers
-pub check_meets : (s : List ℕ) (r : Verdict) → r ≡ verdict s → (r ≡ verdict s) × VerdictNumbered (verdict s) r
-check_meets s r e =
-    let number = ap verdict_number e in (
-      e,
-      record {
-        number = number;
-        place = ap verdict_place e;
-        none = (λ z. accepted_numbered s (sym number ∙ z), λ a. number ∙ ap verdict_number a);
-      },
-    )
+pub check_numbered : (s : List ℕ) (r : Verdict) → r ≡ verdict s → VerdictNumbered (verdict s) r
+check_numbered s r e =
+    let number = ap verdict_number e in
+    record {
+      number = number;
+      place = ap verdict_place e;
+      none = (λ z. accepted_numbered s (sym number ∙ z), λ a. number ∙ ap verdict_number a);
+    }

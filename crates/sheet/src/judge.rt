@@ -4,7 +4,7 @@ ghost use Rattle.buffer.specs.Verdict.{VerdictNumbered};
 ghost use Rattle.records.specs.Sections.{record_size, label_of};
 ghost use Rattle.sheet.specs.Reading.{among, least_slot, record_fault, records_verdict, section_verdict, verdict};
 
-use crate::met::first_met;
+use crate::met::Records;
 use buffer::Verdict;
 use kinds::{SECTIONS, fault};
 use records::{LABEL_SIZE, most, record_size, section_size, slot};
@@ -37,7 +37,7 @@ fn record_fault(section: usize, floor: usize, taken: bool, bytes: &[u8]) -> u8
     requires { record_size section ≤ length bytes.now }
     ensures { (before : List (List ℕ)) → least_slot before ≡ floor → among (label_of bytes.now) (map label_of before) ≡ taken → result ≡ record_fault section before bytes.now }
 {
-    let slot = slot(bytes) as usize;
+    let slot = usize::from(slot(bytes));
     if most(section) <= slot {
         return SLOT_TOO_BIG;
     }
@@ -59,11 +59,15 @@ fn check_records(sheet: &[u8], section: usize, count: usize, start: usize) -> Ve
     ensures { result ≡ records_verdict section count [] start (drop start sheet.now) }
 {
     let size = record_size(section);
-    let repeat = first_met(sheet, section, count, start);
-    let mut at = start;
+    let records = Records {
+        sheet,
+        section,
+        start,
+    };
+    let repeat = records.first_met(count);
     let mut floor: usize = 0;
-    let mut done: usize = 0;
-    while done < count {
+    for done in 0..count {
+        let at = start + done * size;
         if sheet.len() - at < size {
             return Verdict::Refused(INCOMPLETE, at);
         }
@@ -72,9 +76,7 @@ fn check_records(sheet: &[u8], section: usize, count: usize, start: usize) -> Ve
         if number != NO_FAULT {
             return Verdict::Refused(number, at);
         }
-        floor = slot(next) as usize + 1;
-        at += size;
-        done += 1;
+        floor = usize::from(slot(next)) + 1;
     }
     Verdict::Accepted
 }
@@ -86,7 +88,7 @@ fn check_section(sheet: &[u8], section: usize, at: usize) -> Verdict
     if sheet.len() <= at {
         return Verdict::Refused(INCOMPLETE, at);
     }
-    let count = peek::byte_at(sheet, at) as usize;
+    let count = usize::from(peek::byte_at(sheet, at));
     if most(section) < count {
         return Verdict::Refused(COUNT_TOO_BIG, at);
     }
@@ -98,9 +100,8 @@ pub fn check(sheet: &[u8]) -> Verdict
     ensures value { result ≡ verdict sheet.now }
     ensures verdict_numbered { VerdictNumbered (verdict sheet.now) result }
 {
-    let mut at: usize = 0;
-    let mut section: usize = 0;
-    while section < SECTIONS {
+    let mut at = 0;
+    for section in 0..SECTIONS {
         match check_section(sheet, section, at) {
             Verdict::Refused(number, place) => {
                 return Verdict::Refused(number, place);
@@ -108,7 +109,6 @@ pub fn check(sheet: &[u8]) -> Verdict
             Verdict::Accepted => {}
         }
         at += section_size(section, peek::byte_at(sheet, at));
-        section += 1;
     }
     if at < sheet.len() {
         Verdict::Refused(LEFT_OVER, at)

@@ -1,6 +1,6 @@
-// Sheets and streams as text in lent room, one record or command to a line.
+// Sheets and streams as text, one record or command to a line.
 // Promises: every call is safe and ends; what does not fit is left out.
-// Rests on: faults (the walk over a sheet), text (words), records (a record's fields), peek and buffer.
+// Rests on: faults (the walk over a sheet), text (words), records (a record's fields), peek (bytes).
 #![tactic(auto)]
 
 mod commands;

@@ -3,92 +3,84 @@ use crate::state_text::put_state;
 use faults::Cursor;
 use peek::field;
 use records::{description, label, record_size, slot};
-use text::{Section, put_bits, put_number, put_padded, put_trimmed};
+use std::fmt::{self, Write};
+use text::{Line, Plain, Section};
 
 // The lines of the first `end` bytes, which are whole counts and records.
-pub fn put_sheet(out: &mut [u8], at: usize, sheet: &[u8], end: usize) -> usize {
-    let mut behind = at;
-    let mut here = faults::start();
+pub fn put_sheet(line: &mut Line, sheet: &[u8], end: usize) -> fmt::Result {
+    let mut here = Cursor::start();
     while here.at < end {
-        behind = put_place(out, behind, sheet, here);
-        here = faults::next(sheet, here, end);
+        put_place(line, sheet, here)?;
+        here = here.next(sheet, end);
     }
-    behind
+    Ok(())
 }
 
-fn put_place(out: &mut [u8], at: usize, sheet: &[u8], here: Cursor) -> usize {
-    let a = put_padded(out, at, here.at);
-    let b = buffer::put_at(out, a, b"  ");
-    let c = put_line(out, b, sheet, here);
-    buffer::put_at(out, c, b"\n")
-}
-
-fn put_line(out: &mut [u8], at: usize, sheet: &[u8], here: Cursor) -> usize {
+fn put_place(line: &mut Line, sheet: &[u8], here: Cursor) -> fmt::Result {
     let bytes = peek::suffix(sheet, here.at);
-    if here.record == 0 {
-        return put_count(out, at, here.section, peek::byte_at(bytes, 0));
+    write!(line, "{:4}  ", here.at)?;
+    match here.record {
+        None => put_count(line, here.section, peek::byte_at(bytes, 0))?,
+        Some(_) => put_record(
+            line,
+            here.section,
+            peek::prefix(bytes, record_size(here.section)),
+        )?,
     }
-    put_record(
-        out,
-        at,
-        here.section,
-        peek::prefix(bytes, record_size(here.section)),
+    line.write_str("\n")
+}
+
+fn put_count(line: &mut Line, section: usize, count: u8) -> fmt::Result {
+    write!(line, "{}: {count}", text::section_name(section))
+}
+
+fn put_record(line: &mut Line, section: usize, record: &[u8]) -> fmt::Result {
+    write!(line, "slot {} \"{}\"", slot(record), Plain(label(record)))?;
+    put_description(line, section, description(record))
+}
+
+fn put_description(line: &mut Line, section: usize, description: &[u8]) -> fmt::Result {
+    match text::section_at(section) {
+        Some(Section::Terms) => put_term(line, description),
+        Some(Section::Ranges) => put_range(line, description),
+        Some(Section::Edges) => put_edge(line, description),
+        Some(Section::Sums) => put_operations(line, description),
+        Some(Section::States) => put_state(line, description),
+        None => Ok(()),
+    }
+}
+
+fn put_term(line: &mut Line, description: &[u8]) -> fmt::Result {
+    let target = field(description, 0);
+    let mask = field(description, 1);
+    write!(line, " target {target:08X} mask {mask:08X}")
+}
+
+fn put_range(line: &mut Line, description: &[u8]) -> fmt::Result {
+    let lower = field(description, 0);
+    let upper = field(description, 1);
+    let mask = field(description, 2);
+    write!(line, " lower {lower:08X} upper {upper:08X} mask {mask:08X}")
+}
+
+fn put_edge(line: &mut Line, description: &[u8]) -> fmt::Result {
+    let rise = field(description, 0);
+    let fall = field(description, 1);
+    let neither = field(description, 2);
+    write!(
+        line,
+        " rise {rise:08X} fall {fall:08X} neither {neither:08X}"
     )
 }
 
-fn put_count(out: &mut [u8], at: usize, section: usize, count: u8) -> usize {
-    let a = put_trimmed(out, at, &text::section_name(section));
-    put_number(out, a, b": ", count as usize)
-}
-
-fn put_record(out: &mut [u8], at: usize, section: usize, record: &[u8]) -> usize {
-    let a = put_number(out, at, b"slot ", slot(record) as usize);
-    let b = buffer::put_at(out, a, b" ");
-    let c = text::put_quoted(out, b, label(record), b"\"");
-    put_description(out, c, section, description(record))
-}
-
-fn put_description(out: &mut [u8], at: usize, section: usize, description: &[u8]) -> usize {
-    match text::section_at(section) {
-        Section::Terms => put_term(out, at, description),
-        Section::Ranges => put_range(out, at, description),
-        Section::Edges => put_edge(out, at, description),
-        Section::Sums => put_operations(out, at, description),
-        Section::States => put_state(out, at, description),
-        Section::Nothing => at,
+fn put_operations(line: &mut Line, operations: &[u8]) -> fmt::Result {
+    for (i, code) in operations.iter().enumerate() {
+        write!(
+            line,
+            " {} {}",
+            text::stage_name(i),
+            text::operation_name(*code)
+        )?;
     }
-}
-
-fn put_term(out: &mut [u8], at: usize, description: &[u8]) -> usize {
-    let a = put_bits(out, at, b" target ", field(description, 0), 8);
-    put_bits(out, a, b" mask ", field(description, 1), 8)
-}
-
-fn put_range(out: &mut [u8], at: usize, description: &[u8]) -> usize {
-    let a = put_bits(out, at, b" lower ", field(description, 0), 8);
-    let b = put_bits(out, a, b" upper ", field(description, 1), 8);
-    put_bits(out, b, b" mask ", field(description, 2), 8)
-}
-
-fn put_edge(out: &mut [u8], at: usize, description: &[u8]) -> usize {
-    let a = put_bits(out, at, b" rise ", field(description, 0), 8);
-    let b = put_bits(out, a, b" fall ", field(description, 1), 8);
-    put_bits(out, b, b" neither ", field(description, 2), 8)
-}
-
-fn put_operations(out: &mut [u8], at: usize, operations: &[u8]) -> usize {
-    let mut behind = at;
-    let mut i: usize = 0;
-    while i < operations.len() {
-        behind = put_operation(out, behind, i, operations[i]);
-        i += 1;
-    }
-    behind
-}
-
-fn put_operation(out: &mut [u8], at: usize, i: usize, code: u8) -> usize {
-    let a = buffer::put_at(out, at, b" ");
-    let b = put_trimmed(out, a, &text::stage_name(i));
-    let c = buffer::put_at(out, b, b" ");
-    put_trimmed(out, c, &text::operation_name(code))
+    Ok(())
 }

@@ -1,17 +1,18 @@
 -- The flags of a state and the bits of its word: each is read as it was written, and written as it was read. Assumes
 -- nothing.
-use Prim.Native.Nat.{ℕ, zero, suc, ◌+◌, ◌/◌, ◌%◌, ◌^◌, ◌<◌}
+use Prim.Native.Nat.{ℕ, zero, suc, ◌+◌, ◌-◌, ◌*◌, ◌/◌, ◌%◌, ◌^◌, ◌<◌, ◌≤◌}
 use mathlib.Core.Bool.{true}
 use mathlib.Core.List.{List, ◌∷◌}
 use mathlib.Core.Path.{◌≡◌, refl, sym, ap, ap₂, ◌∙◌}
 use native.Mathlib.Decide.{dec_lt}
-use native.Mathlib.Nat.{zero-add, add-zero, add_comm, mod-eq_of_lt}
+use native.Mathlib.Nat.{lt_of_lt_of_le, zero-add, add-zero, add_comm, mod-eq_of_lt}
 use native.Mathlib.Omega.{arith}
 use lib.Dec.{lit<}
 use lib.ListN.{length, get_or, get_or-eq_default}
+use lib.Pow.{pow_mono}
 use lib.Seq.{take_all}
-use Rattle.lines.specs.Line.{line}
-use Rattle.lines.proofs.Digit.{bit_lt, line_up, line_from, from_lines_law, from_lines_lt}
+use Rattle.lines.specs.Line.{line, from_lines}
+use Rattle.lines.proofs.Digit.{bit_lt, line_up, line_from, from_lines_law, from_lines_lt, lines_next}
 use Rattle.peek.specs.Bytes.{bytes_from}
 use Rattle.peek.proofs.FieldLaws.{bytes_taken}
 use Rattle.compare.specs.Within.{all_within}
@@ -23,6 +24,26 @@ use Rattle.state.specs.Back.{bits_from}
 
 pub bits_lt : (fs : List ℕ) → bits_of fs < 256
 bits_lt fs = from_lines_lt 8 (λ i. get_or fs i 0 % 2) (λ i. bit_lt (get_or fs i 0))
+
+-- the flags from i on, of eight
+abbrev pub bits_above : (fs : List ℕ) (i : ℕ) → ℕ
+bits_above fs i = from_lines (8 - i) (λ j. get_or fs (j + i) 0 % 2)
+
+pub above_lt : (fs : List ℕ) (i : ℕ) → bits_above fs i < 256
+above_lt fs i =
+    lt_of_lt_of_le (from_lines_lt (8 - i) (λ j. get_or fs (j + i) 0 % 2) (λ j. bit_lt (get_or fs (j + i) 0)))
+    (pow_mono {i = 8 - i} {j = 8} (omega arith))
+
+pub above_more : (fs : List ℕ) (i : ℕ) → 0 < i → i ≤ 8 → bits_above fs (i - 1) ≡ bits_above fs i * 2 + get_or fs (i - 1) 0 % 2
+above_more fs i h l =
+    let e : suc (i - 1) ≡ i = omega arith in
+    rw e at (lines_next 8 (i - 1) (λ j. get_or fs j 0 % 2) (omega arith))
+
+pub above_all : (fs : List ℕ) → bits_above fs 0 ≡ bits_of fs
+above_all fs = simp add-zero
+
+-- what the loop over the flags needs
+pub ruleset above = (above_lt, above_more, above_all)
 
 -- a flag that is 0 or 1
 flag_small : (fs : List ℕ) → all_within 0 1 fs ≡ true → (i : ℕ) → get_or fs i 0 < 2

@@ -1,10 +1,11 @@
 -- Reading back: every word of 32 bits is that of one accepted state, and is read as it. Assumes nothing.
 use Prim.Native.Nat.{ℕ, ◌+◌, ◌*◌, ◌/◌, ◌%◌, ◌^◌, ◌≤◌, ◌<◌}
-use mathlib.Core.Path.{◌≡◌, refl, sym, ap, subst, ◌∙◌}
+use mathlib.Core.Path.{◌≡◌, refl, sym, ap, ◌∙◌}
 use mathlib.Core.Bool.{Bool, true, false, cond, true≢false}
 use mathlib.Core.List.{List, [], ◌∷◌}
+use Rattle.std.proofs.Common.{Option, Some, None}
 use native.Mathlib.Omega.{arith}
-use borrow.Author.Tests.{eq-eqb, ne_eqb, lt-ltb, le-leb, leb-true, eqb-true, ltb-true}
+use borrow.Author.Tests.{lt-ltb, le-leb, leb-true, eqb-true, ltb-true}
 use lib.Dec.{eqb, ltb, leb}
 use lib.ListN.{length, get_or}
 use Rattle.lines.proofs.Truth.{both_true}
@@ -12,10 +13,9 @@ use Rattle.lut.specs.Back.{ReadNumbered}
 use Rattle.lut.proofs.Numbers.{numbered_read, numbered_refused}
 use Rattle.compare.specs.Within.{all_within}
 use Rattle.state.specs.declared.State.{State}
-use Rattle.state.specs.declared.ReadState.{ReadState}
 use Rattle.state.specs.Fields.{Accepted}
 use Rattle.state.specs.Words.{bits_of, word_of, words_of}
-use Rattle.state.specs.Back.{WrittenBy, Says, ReadMeans, state_of, known, read_state, read_number, read_place}
+use Rattle.state.specs.Back.{WrittenBy, ReadMeans, state_of, known, read_state, read_number, read_place}
 use Rattle.state.proofs.Bits.{bits_lt, bits_length, bits_within, flags_read, flags_written}
 
 -- ---- what an accepted state is, field by field
@@ -81,15 +81,14 @@ one_word (w ∷ v ∷ ws) l = absurd (omega arith)
 known_written : (ws : List ℕ) (s : State) → WrittenBy ws s → known ws ≡ true
 known_written ws s w = ap known w.written ∙ lt-ltb (word_of s) (2 ^ 32) (word_lt s)
 
-pub read_written : (s : State) → Accepted s → read_state (words_of s) ≡ record { ok = true; state = s }
+pub read_written : (s : State) → Accepted s → read_state (words_of s) ≡ Some s
 read_written s a =
-    let k = known_written (words_of s) s (record { accepted = a; written = refl }) in
-    rw (lt-ltb (word_of s) (2 ^ 32) (word_lt s), state_read s a)
+    rw (known_written (words_of s) s (record { accepted = a; written = refl })) (ap (λ (t : State). Some t) (state_read s a))
 
 pub read_means : (ws : List ℕ) → ReadMeans ws (read_state ws)
 read_means ws = go (known ws) refl
   where
-    go : (b : Bool) → known ws ≡ b → Says ws b (state_of (cond b (get_or ws 0 0) 0))
+    go : (b : Bool) → known ws ≡ b → ReadMeans ws (cond b (Some (state_of (get_or ws 0 0))) None)
     go true e =
         let g = both_true (eqb (length ws) 1) (ltb (get_or ws 0 0) (2 ^ 32)) e in
         record {
@@ -101,25 +100,12 @@ read_means ws = go (known ws) refl
     go false e = λ s w. true≢false (sym (known_written ws s w) ∙ e)
 
 -- and an answer that says so has these numbers
-pub read_numbered : (ws : List ℕ) (r : ReadState) → ReadMeans ws r → ReadNumbered Accepted words_of ws (read_number r) (read_place r)
-read_numbered ws r = go r.ok r.state
-  where
-    go : (ok : Bool) (s : State) → Says ws ok s → ReadNumbered Accepted words_of ws (cond ok 0 16) 0
-    go true s says = numbered_read Accepted words_of ws (s, (says.accepted, says.written))
-    go false s none = numbered_refused Accepted words_of ws (λ x. none x.0 (record { accepted = x.1.0; written = x.1.1 }))
+pub read_numbered : (ws : List ℕ) (r : Option State) → ReadMeans ws r → ReadNumbered Accepted words_of ws (read_number r) (read_place r)
+read_numbered ws (Some s) says = numbered_read Accepted words_of ws (s, (says.accepted, says.written))
+read_numbered ws None none = numbered_refused Accepted words_of ws (λ x. none x.0 (record { accepted = x.1.0; written = x.1.1 }))
 
--- ---- as the code meets it
-
-pub read_meets : (ws : List ℕ) (r : ReadState) → r ≡ read_state ws
-    → (r ≡ read_state ws) × (ReadMeans ws r × ReadNumbered Accepted words_of ws (read_number r) (read_place r))
-read_meets ws r e = let says = subst (ReadMeans ws) (sym e) (read_means ws) in (e, (says, read_numbered ws r says))
-
-abbrev answer : (ok : Bool) → State → ReadState
-answer ok s = record { ok = ok; state = s }
-
--- words of another count, and one word
-pub read_other : (ws : List ℕ) (s : State) → (length ws ≡ 1 → ⊥) → s ≡ state_of 0 → answer false s ≡ read_state ws
-read_other ws s n e = rw (ne_eqb (length ws) 1 n, e)
-
-pub read_one : (ws : List ℕ) (s : State) → length ws ≡ 1 → get_or ws 0 0 < 2 ^ 32 → s ≡ state_of (get_or ws 0 0) → answer true s ≡ read_state ws
-read_one ws s l h e = rw (eq-eqb (length ws) 1 l, lt-ltb (get_or ws 0 0) (2 ^ 32) h, e)
+-- as the code meets it
+pub read_meets : (ws : List ℕ) (r : Option State) → r ≡ read_state ws
+    → record { value : r ≡ read_state ws; meaning : ReadMeans ws r; read_numbered : ReadNumbered Accepted words_of ws (read_number r) (read_place r) }
+read_meets ws r e =
+    let says : ReadMeans ws r = rw e (read_means ws) in record { value = e; meaning = says; read_numbered = read_numbered ws r says }

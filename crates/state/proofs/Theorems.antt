@@ -1,16 +1,15 @@
 -- What is promised of states. Assumes nothing.
 use Prim.Native.Nat.{ℕ, ◌+◌, ◌/◌, ◌%◌, ◌^◌, ◌<◌}
-use mathlib.Core.Path.{◌≡◌, sym, ap, ◌∙◌}
-use mathlib.Core.Bool.{true, false}
+use mathlib.Core.Path.{◌≡◌, refl, sym, ap, ◌∙◌}
 use mathlib.Core.List.{List, [], ◌∷◌, ◌++◌}
 use mathlib.Core.Logic.{◌↔◌}
+use Rattle.std.proofs.Common.{Option, Some, None}
 use native.Mathlib.Omega.{arith}
 use borrow.Author.Tests.{lt-ltb}
 use lib.ListN.{length, get_or, take, drop, length-drop, take-append-drop}
 use lib.Seq.{take_all}
 use Rattle.lines.specs.Line.{line}
 use Rattle.lut.specs.Back.{Written}
-use Rattle.lut.proofs.Numbers.{ok_iff_written}
 use Rattle.peek.specs.Bytes.{Bytes, bytes_from}
 use Rattle.peek.proofs.FieldLaws.{bytes_taken}
 use Rattle.peek.proofs.Numbers.{u32_read, u32_written}
@@ -23,12 +22,18 @@ use Rattle.state.proofs.Bits.{bit_is_flag, eight_flags, upper_bit}
 use Rattle.state.proofs.ReadingBack as back
 
 -- an accepted state's word is read as its fields [C5, D2.5]
-pub words_read_back : (s : State) → Accepted s → read_state (words_of s) ≡ record { ok = true; state = s }
+pub words_read_back : (s : State) → Accepted s → read_state (words_of s) ≡ Some s
 words_read_back = back.read_written
 
 -- words are refused unless an accepted state writes them [C5, F16, D2.6]
-pub accepted_iff_written : (words : List ℕ) → ((read_state words).ok ≡ false → ⊥) ↔ Written Accepted words_of words
-accepted_iff_written ws = ok_iff_written Accepted words_of ws (read_state ws).ok (back.read_numbered ws (read_state ws) (back.read_means ws))
+pub accepted_iff_written : (words : List ℕ) → (read_state words ≡ None → ⊥) ↔ Written Accepted words_of words
+accepted_iff_written ws =
+    let numbered = back.read_numbered ws (read_state ws) (back.read_means ws) in
+    (λ n. numbered.read.0 (unrefused (read_state ws) n), λ w e. numbered.refused.0 (ap read_number e) w)
+  where
+    unrefused : (r : Option State) → (r ≡ None → ⊥) → read_number r ≡ 0
+    unrefused (Some s) n = refl
+    unrefused None n = absurd (n refl)
 
 -- every word of 32 bits is some accepted state's, so a word is never refused [C6, W19]
 pub every_word_is_some_states : (w : ℕ) → w < 2 ^ 32 → Written Accepted words_of (w ∷ [])

@@ -2,9 +2,10 @@
 -- word. Assumes nothing.
 use Prim.Native.Nat.{ℕ, zero, suc, ◌<◌, ◌^◌}
 use mathlib.Core.Path.{◌≡◌, refl, sym, ap, ◌∙◌}
-use mathlib.Core.Bool.{Bool, true, false, cond}
+use mathlib.Core.Bool.{true}
 use mathlib.Core.List.{List, [], ◌∷◌}
 use mathlib.Core.Logic.{◌↔◌}
+use Rattle.std.proofs.Common.{Option, Some, None}
 use native.Mathlib.Nat.{not-suc-le-zero}
 use native.Mathlib.Omega.{arith}
 use lib.Dec.{lit<}
@@ -15,12 +16,10 @@ use Rattle.peek.proofs.Numbers.{bytes_cons, bytes_append, bytes_u32}
 use Rattle.buffer.proofs.Faults.{unless_none}
 use Rattle.compare.proofs.Within.{within_bytes}
 use Rattle.state.specs.declared.State.{State}
-use Rattle.state.specs.declared.ReadState.{ReadState}
 use Rattle.state.specs.Fields.{fits, Accepted}
 use Rattle.state.specs.Words.{word_of, words_of}
-use Rattle.state.specs.Back.{read_state, state_of, known, Says}
+use Rattle.state.specs.Back.{read_state, ReadMeans}
 use Rattle.state.specs.Description.{size, from_bytes, to_bytes, fault, words, bytes_read, back}
-use Rattle.state.proofs.Bits.{bits_length}
 use Rattle.state.proofs.ReadingBack.{read_means, word_lt, branch_fits, flags_fit}
 use Rattle.state.proofs.Theorems.{words_read_back, equal_words_iff_same, bytes_inverse, description_inverse}
 
@@ -31,10 +30,6 @@ words_count d = refl
 pub fault_none : (d : List ℕ) → fits (from_bytes d) ≡ true → fault d ≡ 0
 unfolding fault
 fault_none d e = rw e
-
-pub fault_big : (d : List ℕ) → fits (from_bytes d) ≡ false → fault d ≡ 18
-unfolding fault
-fault_big d e = rw e
 
 pub accepted : (d : List ℕ) → fault d ≡ 0 → Accepted (from_bytes d)
 unfolding fault
@@ -64,15 +59,15 @@ module _ (s : State) (a : Accepted s) where
   unfolding words
   state_words = ap words_of (description_inverse s a)
 
-read_writes : (ws : List ℕ) (ok : Bool) (s : State) → Says ws ok s → 0 < length (cond ok (to_bytes s) []) → Writes size fault words ws (cond ok (to_bytes s) [])
-read_writes ws true s w h =
+read_writes : (ws : List ℕ) (r : Option State) → ReadMeans ws r → 0 < length (bytes_read r) → Writes size fault words ws (bytes_read r)
+read_writes ws (Some s) w h =
     let a = w.accepted in
     record { are_bytes = state_bytes s a; whole = state_whole s a; faultless = state_faultless s a; written = state_words s a ∙ sym w.written }
-read_writes ws false s w h = absurd (not-suc-le-zero h)
+read_writes ws None w h = absurd (not-suc-le-zero h)
 
 pub back_writes : (ws : List ℕ) → 0 < length (back ws) → Writes size fault words ws (back ws)
 unfolding back
-back_writes ws h = read_writes ws (read_state ws).ok (read_state ws).state (read_means ws) h
+back_writes ws h = read_writes ws (read_state ws) (read_means ws) h
 
 pub words_fit : (d : List ℕ) (i : ℕ) → get_or (words d) i 0 < 2 ^ 32
 unfolding words
@@ -86,15 +81,3 @@ words_differ d e bd be ld le fd fe q =
     sym (bytes_inverse d bd ld)
     ∙ ap to_bytes ((equal_words_iff_same (from_bytes d) (from_bytes e) (accepted d fd) (accepted e fe)).0 (ap (λ (w : ℕ). w ∷ []) q))
     ∙ bytes_inverse e be le
-
--- ---- as the code meets it
-
-pub state_told : (r : ReadState) → r.ok ≡ true → to_bytes r.state ≡ bytes_read r
-state_told r e = rw e
-
-pub state_refused : (r : ReadState) → r.ok ≡ false → [] ≡ bytes_read r
-state_refused r e = rw e
-
-pub read_eight : (ws : List ℕ) → length (read_state ws).state.flags ≡ 8
-unfolding state_of
-read_eight ws = bits_length 8 24 (cond (known ws) (get_or ws 0 0) 0)

@@ -1,9 +1,8 @@
 -- A state's description in a sheet, as bytes: what every kind of record answers of its own.
-use Rattle.std.specs.Prelude.{ℕ, cond, List, [], ◌∷◌, ◌++◌, get_or}
+use Rattle.std.specs.Prelude.{ℕ, List, [], ◌∷◌, ◌++◌, Option, Some, None, get_or}
 use Rattle.buffer.specs.Verdict.{fault_unless}
 use Rattle.peek.specs.Bytes.{u32_at, u32_bytes, bytes_from}
 use Rattle.state.specs.declared.State.{State}
-use Rattle.state.specs.declared.ReadState.{ReadState}
 use Rattle.state.specs.Fields.{fits}
 use Rattle.state.specs.Words.{words_of}
 use Rattle.state.specs.Back.{read_state}
@@ -29,8 +28,9 @@ unfoldable pub words : List ℕ → List ℕ
 words d = words_of (from_bytes d)
 
 -- the description of an answer of the way back; no bytes where it is refused [B7, C5]
-abbrev pub bytes_read : ReadState → List ℕ
-bytes_read r = cond r.ok (to_bytes r.state) []
+abbrev pub bytes_read : Option State → List ℕ
+bytes_read (Some s) = to_bytes s
+bytes_read None = []
 
 -- computed: the description that words are read as, no bytes if there is none; theorem read_means [B6, B7, C5, F16]
 unfoldable pub back : List ℕ → List ℕ

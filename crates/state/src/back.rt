@@ -1,39 +1,24 @@
 // The way back: the state that writes a given word.
-ghost use Rattle.std.specs.Prelude.{◌≡◌, ◌^◌, ◌<◌};
-ghost use Rattle.lines.specs.Line.{line};
+ghost use Rattle.std.specs.Prelude.{◌≡◌};
 ghost use Rattle.lut.specs.Back.{ReadNumbered};
 ghost use Rattle.state.specs.Fields.{Accepted};
 ghost use Rattle.state.specs.Words.{words_of};
 ghost use Rattle.state.specs.Back.{bits_from, state_of, read_state, ReadMeans, read_number, read_place};
 
-use crate::{ReadState, State};
-
-// Bit i of a word, as a flag.
-fn flag_at(word: u32, i: u32) -> u8
-    ensures { result ≡ line word i }
-{
-    lines::line_value(word, i) as u8
-}
+use crate::State;
 
 // The flags of a word.
+#[tactic(auto, unfolding(crate::specs::Back::bits_from))]
 fn flags_of(w: u32) -> [u8; 8]
     ensures { result ≡ bits_from 8 24 w }
 {
-    [
-        flag_at(w, 24),
-        flag_at(w, 25),
-        flag_at(w, 26),
-        flag_at(w, 27),
-        flag_at(w, 28),
-        flag_at(w, 29),
-        flag_at(w, 30),
-        flag_at(w, 31),
-    ]
+    std::array::from_fn(|i| lines::line_value(w, 24 + i as u32) as u8)
 }
 
-// The fields of a word, which has 32 bits.
+// The fields of a word.
+#[tactic(auto, unfolding(crate::specs::Back::state_of))]
 fn state_of(w: u32) -> State
-    ensures { (result ≡ state_of w) × (w < 2 ^ 32) }
+    ensures { result ≡ state_of w }
 {
     State {
         number: w % 0x10_0000,
@@ -43,19 +28,13 @@ fn state_of(w: u32) -> State
 }
 
 // The state that writes these words, if one does: every word is some state's, so only their count can be wrong.
-pub fn read_state(words: &[u32]) -> ReadState
+pub fn read_state(words: &[u32]) -> Option<State>
     ensures value { result ≡ read_state words.now }
     ensures meaning { ReadMeans words.now result }
     ensures read_numbered { ReadNumbered Accepted words_of words.now (read_number result) (read_place result) }
 {
-    if words.len() != 1 {
-        return ReadState {
-            ok: false,
-            state: state_of(0),
-        };
-    }
-    ReadState {
-        ok: true,
-        state: state_of(words[0]),
+    match words {
+        [word] => Some(state_of(*word)),
+        _ => None,
     }
 }

@@ -8,12 +8,5 @@ use crate::{FLAG_LAST, NUMBER_LAST, STATE_LAST, State};
 pub(crate) fn fields_fit(s: State) -> bool
     ensures { result ≡ fits s }
 {
-    if NUMBER_LAST < s.number {
-        return false;
-    }
-    if STATE_LAST < s.branch {
-        return false;
-    }
-    let flags = s.flags;
-    compare::all_within(0, FLAG_LAST, &flags)
+    s.number <= NUMBER_LAST && s.branch <= STATE_LAST && compare::all_within(0, FLAG_LAST, &s.flags)
 }

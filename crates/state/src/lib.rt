@@ -26,10 +26,3 @@ pub struct State {
     pub branch: u8,
     pub flags: [u8; 8],
 }
-
-// The state of chain words; where none writes the words, ok is false (refusal 16) and the fields are 0.
-#[derive(Clone, Copy)]
-pub struct ReadState {
-    pub ok: bool,
-    pub state: State,
-}

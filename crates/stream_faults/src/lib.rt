@@ -1,6 +1,6 @@
 // What is wrong with a refused stream, in words: what stands at the place.
 // Promises: every call is safe and ends; what does not fit is left out.
-// Rests on: faults (a walk by sizes), text (words), kinds (how many sections there are), peek (bytes), buffer (lent room).
+// Rests on: text (words), kinds (the item of an address), peek (bytes).
 #![tactic(auto)]
 
 mod addresses;

@@ -4,7 +4,5 @@ pub mod Meanings
 pub mod Sources
 pub mod Walk
 pub mod ReadingBack
-pub mod Cases
-pub mod Eleven
 pub mod Theorems
 pub mod Ways

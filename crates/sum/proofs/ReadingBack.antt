@@ -3,18 +3,18 @@ use Prim.Native.Nat.{ℕ, zero, suc, ◌≤◌}
 use mathlib.Core.Path.{◌≡◌, refl, sym, ap, ap₂, ◌∙◌}
 use mathlib.Core.Bool.{Bool, true, false, cond, ◌&&◌, true≢false}
 use mathlib.Core.List.{List, [], ◌∷◌}
+use Rattle.std.proofs.Common.{Option, Some, None}
 use native.Mathlib.Omega.{arith}
 use borrow.Author.Tests.{eq-eqb, eqb-true}
 use lib.Dec.{eqb}
-use lib.ListN.{length, get_or, replicate}
+use lib.ListN.{length, get_or}
 use Rattle.lines.proofs.Truth.{both_true}
 use Rattle.lut.specs.Table.{high, low, word_of}
 use Rattle.lut.specs.Back.{ReadNumbered}
 use Rattle.lut.proofs.Numbers.{numbered_read, numbered_refused}
-use Rattle.sum.specs.declared.ReadSum.{ReadSum}
 use Rattle.sum.specs.Operation.{pair_ops, mid_ops, final_ops, op_word, op_code, codes_accepted, Accepted}
 use Rattle.sum.specs.Words.{joined, words_of}
-use Rattle.sum.specs.Back.{WrittenBy, Says, ReadMeans, codes_of, known, read_sum, read_number, read_place}
+use Rattle.sum.specs.Back.{WrittenBy, ReadMeans, codes_of, known, read_sum, read_number, read_place}
 use Rattle.sum.proofs.Tables.{TenWords, pairs, mids, finals, code_of_word, joined_high, joined_low, word_of_code, joined_codes, code_at}
 
 -- a list by its places
@@ -84,7 +84,7 @@ read_known w b h =
     let n : length w ≡ 6 = ap length h.written ∙ words_length b in
     (ap₂ ◌&&◌ (eq-eqb (length w) 6 n) (ap codes_accepted e ∙ h.accepted), e)
 
-pub read_written : (w b : List ℕ) → WrittenBy w b → read_sum w ≡ record { ok = true; ops = b }
+pub read_written : (w b : List ℕ) → WrittenBy w b → read_sum w ≡ Some b
 read_written w b h = let k = read_known w b h in rw (k.0, k.1)
 
 -- what the answer says is so
@@ -92,18 +92,21 @@ pub read_means : (w : List ℕ) → ReadMeans w (read_sum w)
 unfolding codes_of
 read_means w = go (known w) refl
   where
-    go : (b : Bool) → known w ≡ b → Says w b (cond b (codes_of w) (replicate 11 0))
+    go : (b : Bool) → known w ≡ b → ReadMeans w (cond b (Some (codes_of w)) None)
     go true e =
         let g = both_true (eqb (length w) 6) (codes_accepted (codes_of w)) e in
         record { eleven = refl; accepted = g.1; written = sym (words_of_codes w (eqb-true (length w) 6 g.0) g.1) }
     go false e = λ b h. true≢false (sym (read_known w b h).0 ∙ e)
 
 -- and an answer that says so has these numbers
-pub read_numbered : (w : List ℕ) (r : ReadSum) → ReadMeans w r → ReadNumbered Accepted words_of w (read_number r) (read_place r)
-read_numbered w r = go r.ok r.ops
-  where
-    go : (ok : Bool) (ops : List ℕ) → Says w ok ops → ReadNumbered Accepted words_of w (cond ok 0 16) 0
-    go true ops says = numbered_read Accepted words_of w (ops, (record { eleven = says.eleven; codes = says.accepted }, says.written))
-    go false ops none =
-        numbered_refused Accepted words_of w
-        (λ x. none x.0 (record { eleven = x.1.0.eleven; accepted = x.1.0.codes; written = x.1.1 }))
+pub read_numbered : (w : List ℕ) (r : Option (List ℕ)) → ReadMeans w r → ReadNumbered Accepted words_of w (read_number r) (read_place r)
+read_numbered w (Some ops) says =
+    numbered_read Accepted words_of w (ops, (record { eleven = says.eleven; codes = says.accepted }, says.written))
+read_numbered w None none =
+    numbered_refused Accepted words_of w (λ x. none x.0 (record { eleven = x.1.0.eleven; accepted = x.1.0.codes; written = x.1.1 }))
+
+-- as the code meets it
+pub read_meets : (w : List ℕ) (r : Option (List ℕ)) → r ≡ read_sum w
+    → record { value : r ≡ read_sum w; meaning : ReadMeans w r; read_numbered : ReadNumbered Accepted words_of w (read_number r) (read_place r) }
+read_meets w r e =
+    let says : ReadMeans w r = rw e (read_means w) in record { value = e; meaning = says; read_numbered = read_numbered w r says }

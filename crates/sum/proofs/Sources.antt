@@ -1,12 +1,12 @@
 -- The sources of four pairs side by side, a byte for each pair, as the model packs them. Assumes nothing.
 use mathlib.Core.Path.{◌≡◌, refl, sym, ap, ◌∙◌}
-use Prim.Native.Nat.{ℕ, ◌+◌, ◌*◌, ◌/◌, ◌%◌, ◌^◌, ◌<◌, ◌≤◌}
+use Prim.Native.Nat.{ℕ, suc, ◌+◌, ◌*◌, ◌/◌, ◌%◌, ◌^◌, ◌<◌}
 use native.Mathlib.Omega.{arith}
-use lib.Bits.{bit_and}
+use lib.Bits.{bit_and, and_mask, and_step}
 use lib.Dec.{eqb, eqb→eq, lit<}
 use Rattle.lines.specs.Line.{line}
 use Rattle.lines.proofs.Computed.{every_below_law}
-use Rattle.lines.proofs.Digit.{bit_lt, line_mod, line_up}
+use Rattle.lines.proofs.Digit.{bit_lt, next_lines, line_mod, line_up}
 use Rattle.lut.specs.Table.{answer_at, high, low}
 use Rattle.sum.specs.Model.{first_pairs, last_pairs, inputs_of}
 
@@ -38,43 +38,6 @@ asked s a b = 3 * line s a + 12 * line s b
 
 abbrev pub addresses_of : ℕ → ℕ
 addresses_of s = asked s 0 1 + 256 * (16 + asked s 2 10) + 65536 * asked s 3 12 + 16777216 * (16 + asked s 4 14)
-
--- bounds, so that nothing wraps
-pub lower_le : (x : ℕ) → lower_sources x ≤ 16843013
-lower_le x = go _ _ _ _ _ (bit_lt (x / 2 ^ 0)) (bit_lt (x / 2 ^ 1)) (bit_lt (x / 2 ^ 2)) (bit_lt (x / 2 ^ 3)) (bit_lt (x / 2 ^ 4))
-  where
-    go : (a b c d e : ℕ) → a < 2 → b < 2 → c < 2 → d < 2 → e < 2 → a + 4 * b + 256 * c + 65536 * d + 16777216 * e ≤ 16843013
-    go a b c d e ha hb hc hd he = omega arith
-
-pub upper_le : (x : ℕ) → upper_sources x ≤ 67372032
-upper_le x = go _ _ _ (bit_lt (x / 2 ^ 0)) (bit_lt (x / 2 ^ 2)) (bit_lt (x / 2 ^ 4))
-  where
-    go : (a b c : ℕ) → a < 2 → b < 2 → c < 2 → 1024 * a + 262144 * b + 67108864 * c ≤ 67372032
-    go a b c ha hb hc = omega arith
-
--- three times the sources, and 16 for each table in a high half, over any values of the sources
-three_times : (a b c d e f g h : ℕ) → 3 * (a + 4 * b + 256 * c + 65536 * d + 16777216 * e + (1024 * f + 262144 * g + 67108864 * h)) + 268439552
-    ≡ 3 * a + 12 * b + 256 * (16 + (3 * c + 12 * f)) + 65536 * (3 * d + 12 * g) + 16777216 * (16 + (3 * e + 12 * h))
-three_times a b c d e f g h = omega arith
-
-low_digit : (s i : ℕ) → i < 5 → line (s % 32) i ≡ line s i
-low_digit s i h = line_mod s 5 i h
-
-high_digit : (s i : ℕ) → i < 5 → line (s / 1024 % 32) i ≡ line s (i + 10)
-high_digit s i h = line_mod (s / 1024) 5 i h ∙ sym (line_up s i 10)
-
-pub packed : (s : ℕ) → 3 * (lower_sources (s % 32) + upper_sources (s / 1024 % 32)) + 268439552 ≡ addresses_of s
-packed s =
-    rw (
-      low_digit s 0 (lit< tt),
-      low_digit s 1 (lit< tt),
-      low_digit s 2 (lit< tt),
-      low_digit s 3 (lit< tt),
-      low_digit s 4 (lit< tt),
-      high_digit s 0 (lit< tt),
-      high_digit s 2 (lit< tt),
-      high_digit s 4 (lit< tt),
-    ) (three_times (line s 0) (line s 1) (line s 2) (line s 3) (line s 4) (line s 10) (line s 12) (line s 14))
 
 asked_lt : (s a b : ℕ) → asked s a b < 16
 asked_lt s a b = let p = bit_lt (s / 2 ^ a) in let q = bit_lt (s / 2 ^ b) in omega arith
@@ -134,3 +97,23 @@ last_as_first v w s =
       high_line s 2,
       high_line s 4,
     ) refl
+
+-- ---- both tables of a word
+
+low_bit : (word i : ℕ) → i < 16 → bit_and (word / 2 ^ i) 1 ≡ answer_at (low word) i
+low_bit word i h = and_mask (word / 2 ^ i) 1 ∙ sym (line_mod word 16 i h)
+
+-- the second digit, in its place
+second : (x : ℕ) → bit_and x 2 ≡ 2 * (x / 2 % 2)
+second x = omega (arith, and_step x 2, and_mask (x / 2) 1)
+
+high_bit : (word j : ℕ) → bit_and (word / 2 ^ (15 + j)) 2 ≡ 2 * answer_at (high word) j
+high_bit word j =
+    let up : suc (15 + j) ≡ j + 16 = omega arith in
+    second (word / 2 ^ (15 + j))
+    ∙ ap (λ (x : ℕ). 2 * (x % 2)) (next_lines word (15 + j) ∙ ap (λ (k : ℕ). word / 2 ^ k) up) ∙ ap (λ (x : ℕ). 2 * x) (line_up word j 16)
+
+-- a word's digits below 16 are its low half's, those from 16 up its high half's
+pub both_law : (word i j : ℕ) → i < 16
+    → bit_and (word / 2 ^ i) 1 + bit_and (word / 2 ^ (15 + j)) 2 ≡ answer_at (low word) i + 2 * answer_at (high word) j
+both_law word i j h = rw (low_bit word i h, high_bit word j)

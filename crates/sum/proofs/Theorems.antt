@@ -1,19 +1,18 @@
 -- What is promised of sums. Assumes nothing.
 use Prim.Native.Nat.{ℕ, ◌≤◌}
 use mathlib.Core.Path.{◌≡◌, refl, ap, ◌∙◌}
-use mathlib.Core.Bool.{true, false}
 use mathlib.Core.List.{List}
 use mathlib.Core.Logic.{◌↔◌}
+use Rattle.std.proofs.Common.{Option, Some, None}
 use lib.ListN.{get_or}
 use Rattle.lut.specs.Answer.{hit_or_miss}
 use Rattle.lut.specs.Back.{Written}
-use Rattle.lut.proofs.Numbers.{ok_iff_written}
 use Rattle.lut.proofs.Runs.{run_needed}
 use Rattle.sum.specs.Operation.{pair_ops, mid_ops, final_ops, op_word, Accepted}
 use Rattle.sum.specs.Meaning.{two_means, first_half, second_half, sum_means}
 use Rattle.sum.specs.Words.{words_of}
 use Rattle.sum.specs.Model.{run_sum}
-use Rattle.sum.specs.Back.{read_sum}
+use Rattle.sum.specs.Back.{read_sum, read_number}
 use Rattle.sum.proofs.Tables.{pairs, mids, finals, words_differ}
 use Rattle.sum.proofs.Meanings.{sum_model}
 use Rattle.sum.proofs.ReadingBack as back
@@ -43,9 +42,15 @@ operations_differ c d hc hd = (
 )
 
 -- an accepted sum's words are read as its operations [C5, D2.5]
-pub words_read_back : (ops : List ℕ) → Accepted ops → read_sum (words_of ops) ≡ record { ok = true; ops = ops }
+pub words_read_back : (ops : List ℕ) → Accepted ops → read_sum (words_of ops) ≡ Some ops
 words_read_back ops a = back.read_written (words_of ops) ops (record { eleven = a.eleven; accepted = a.codes; written = refl })
 
 -- words are refused unless an accepted sum writes them [C5, F16, D2.6]
-pub accepted_iff_written : (words : List ℕ) → ((read_sum words).ok ≡ false → ⊥) ↔ Written Accepted words_of words
-accepted_iff_written ws = ok_iff_written Accepted words_of ws (read_sum ws).ok (back.read_numbered ws (read_sum ws) (back.read_means ws))
+pub accepted_iff_written : (words : List ℕ) → (read_sum words ≡ None → ⊥) ↔ Written Accepted words_of words
+accepted_iff_written ws =
+    let numbered = back.read_numbered ws (read_sum ws) (back.read_means ws) in
+    (λ n. numbered.read.0 (unrefused (read_sum ws) n), λ w e. numbered.refused.0 (ap read_number e) w)
+  where
+    unrefused : (r : Option (List ℕ)) → (r ≡ None → ⊥) → read_number r ≡ 0
+    unrefused (Some ops) n = refl
+    unrefused None n = absurd (n refl)

@@ -1,8 +1,7 @@
 -- The walk over a table, one element at a time: what the loop needs. Assumes nothing.
 use Prim.Native.Nat.{ℕ, zero, suc, ◌+◌, ◌-◌, ◌≤◌, ◌<◌}
-use mathlib.Core.Path.{◌≡◌, ◌∙◌}
+use mathlib.Core.Path.{◌≡◌}
 use mathlib.Core.List.{List}
-use native.Mathlib.Nat.{zero-add}
 use native.Mathlib.Omega.{arith}
 use borrow.Author.Tests.{eq-eqb, ne_eqb}
 use lib.ListN.{length, get_or, drop, drop_of_length-le}
@@ -11,9 +10,9 @@ use Rattle.sum.specs.Operation.{op_code}
 
 -- the search of a word, from the table's end down: its first place among those from i on
 module _ (ops : List ℕ) (word : ℕ) where
-  pub code_end : (i : ℕ) → length ops ≤ i → i ≡ i + op_code (drop i ops) word
+  pub code_end : (i : ℕ) → length ops ≤ i → op_code (drop i ops) word ≡ 0
   unfolding op_code
-  code_end i h = rw (drop_of_length-le ops h) (omega arith)
+  code_end i h = rw (drop_of_length-le ops h)
 
   pub code_found : (i : ℕ) → i < length ops → get_or ops i 0 ≡ word → i ≡ i + op_code (drop i ops) word
   unfolding op_code
@@ -28,6 +27,5 @@ module _ (ops : List ℕ) (word : ℕ) where
       let other : get_or ops i 0 ≡ word → ⊥ = rw down at n in
       rw down (let z : code ≡ i + op_code (drop i ops) word = rw (drop-cons ops i 0 h, ne_eqb (get_or ops i 0) word other) (omega arith) in z)
 
-  pub code_whole : (i code : ℕ) → i ≤ 0 → code ≡ i + op_code (drop i ops) word → code ≡ op_code ops word
-  code_whole zero code h e = e ∙ zero-add (op_code ops word)
-  code_whole (suc i) code h e = absurd (omega arith)
+-- what the loop over a table needs
+pub ruleset walk = (code_found, code_kept)

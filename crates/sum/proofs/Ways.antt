@@ -2,9 +2,10 @@
 -- Assumes nothing.
 use Prim.Native.Nat.{ℕ, ◌<◌, ◌^◌}
 use mathlib.Core.Path.{◌≡◌, sym, ap, ◌∙◌}
-use mathlib.Core.Bool.{Bool, true, false, cond}
-use mathlib.Core.List.{List, []}
+use mathlib.Core.Bool.{true}
+use mathlib.Core.List.{List}
 use mathlib.Core.Logic.{◌↔◌}
+use Rattle.std.proofs.Common.{Option, Some, None}
 use native.Mathlib.Nat.{not-suc-le-zero}
 use native.Mathlib.Omega.{arith}
 use lib.Dec.{lit<}
@@ -16,10 +17,9 @@ use Rattle.peek.specs.Fields.{Writes}
 use Rattle.buffer.proofs.Faults.{unless_none}
 use Rattle.compare.proofs.Within.{within_bytes}
 use Rattle.buffer.proofs.Writing.{fill_all}
-use Rattle.sum.specs.declared.ReadSum.{ReadSum}
 use Rattle.sum.specs.Operation.{codes_accepted, Accepted}
 use Rattle.sum.specs.Words.{words_of}
-use Rattle.sum.specs.Back.{read_sum, Says}
+use Rattle.sum.specs.Back.{read_sum, ReadMeans}
 use Rattle.sum.specs.Description.{size, from_bytes, fault, words, bytes_read, back}
 use Rattle.sum.proofs.ReadingBack.{read_means}
 use Rattle.sum.proofs.ReadingBack.{words_length}
@@ -49,34 +49,24 @@ accepted d h l f = record { eleven = ap length (from_whole d l) ∙ l; codes = a
 pub faultless_iff : (d : List ℕ) → Bytes d → length d ≡ size → (fault d ≡ 0) ↔ Accepted (from_bytes d)
 faultless_iff d h l = (accepted d h l, (λ a. fault_none d (ap codes_accepted (sym (from_whole d l)) ∙ a.codes)))
 
-pub fault_bad : (d : List ℕ) → codes_accepted d ≡ false → fault d ≡ 10
-unfolding fault
-fault_bad d e = rw e
-
-pub codes_told : (r : ReadSum) → r.ok ≡ true → r.ops ≡ bytes_read r
-codes_told r e = rw e
-
-pub codes_refused : (r : ReadSum) → r.ok ≡ false → [] ≡ bytes_read r
-codes_refused r e = rw e
-
 pub back_words : (d : List ℕ) → Bytes d → length d ≡ size → fault d ≡ 0 → back (words d) ≡ d
 unfolding back words
 back_words d h l f = ap bytes_read (words_read_back (from_bytes d) (accepted d h l f)) ∙ from_whole d l
 
-read_writes : (ws ops : List ℕ) (ok : Bool) → Says ws ok ops → 0 < length (cond ok ops []) → Writes size fault words ws (cond ok ops [])
+read_writes : (ws : List ℕ) (r : Option (List ℕ)) → ReadMeans ws r → 0 < length (bytes_read r) → Writes size fault words ws (bytes_read r)
 unfolding words
-read_writes ws ops true w h =
+read_writes ws (Some ops) w h =
     record {
       are_bytes = within_bytes 0 9 ops (lit< tt) w.accepted;
       whole = w.eleven;
       faultless = fault_none ops w.accepted;
       written = ap words_of (from_whole ops w.eleven) ∙ sym w.written;
     }
-read_writes ws ops false w h = absurd (not-suc-le-zero h)
+read_writes ws None w h = absurd (not-suc-le-zero h)
 
 pub back_writes : (ws : List ℕ) → 0 < length (back ws) → Writes size fault words ws (back ws)
 unfolding back
-back_writes ws h = read_writes ws (read_sum ws).ops (read_sum ws).ok (read_means ws) h
+back_writes ws h = read_writes ws (read_sum ws) (read_means ws) h
 
 pub words_fit : (d : List ℕ) (i : ℕ) → get_or (words d) i 0 < 2 ^ 32
 unfolding words

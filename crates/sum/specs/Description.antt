@@ -1,8 +1,7 @@
 -- A sum's description in a sheet, as bytes: what every kind of record answers of its own.
-use Rattle.std.specs.Prelude.{ℕ, cond, List, [], take, replicate}
+use Rattle.std.specs.Prelude.{ℕ, List, [], Option, Some, None, take, replicate}
 use Rattle.buffer.specs.Verdict.{fault_unless}
 use Rattle.buffer.specs.Room.{fill}
-use Rattle.sum.specs.declared.ReadSum.{ReadSum}
 use Rattle.sum.specs.Operation.{codes_accepted}
 use Rattle.sum.specs.Words.{words_of}
 use Rattle.sum.specs.Back.{read_sum}
@@ -28,8 +27,9 @@ unfoldable pub words : List ℕ → List ℕ
 words d = words_of (from_bytes d)
 
 -- the description of an answer of the way back; no bytes where it is refused [B7, C5]
-abbrev pub bytes_read : ReadSum → List ℕ
-bytes_read r = cond r.ok (to_bytes r.ops) []
+abbrev pub bytes_read : Option (List ℕ) → List ℕ
+bytes_read (Some ops) = to_bytes ops
+bytes_read None = []
 
 -- computed: the description that words are read as, no bytes if there is none; theorem read_means [B6, B7, C5, F16]
 unfoldable pub back : List ℕ → List ℕ

@@ -6,6 +6,6 @@ ghost use Rattle.sum.specs.Address.{sum_address};
 pub fn sum_address(slot: u8) -> u32
     ensures { result ≡ sum_address slot }
 {
-    let s = slot as u32;
+    let s = u32::from(slot);
     0x40 + 4 * (s / 3) + s % 3
 }

@@ -13,18 +13,16 @@ const BAD_OPERATION: u8 = 10;
 pub fn from_bytes(bytes: &[u8]) -> [u8; 11]
     ensures { result ≡ description.from_bytes bytes.now }
 {
-    if 11 <= bytes.len() {
-        return [
-            bytes[0], bytes[1], bytes[2], bytes[3], bytes[4], bytes[5], bytes[6], bytes[7],
-            bytes[8], bytes[9], bytes[10],
-        ];
+    if let Some(ops) = bytes.first_chunk() {
+        return *ops;
     }
     let mut ops = [0u8; 11];
-    buffer::put_bytes(&mut ops, peek::prefix(bytes, 11));
+    ops[..bytes.len()].copy_from_slice(bytes);
     ops
 }
 
 // The first fault of a description, 0 if it has none.
+#[tactic(auto, unfolding(crate::specs::Description::fault))]
 pub fn fault(bytes: &[u8]) -> u8
     ensures { result ≡ description.fault bytes.now }
 {
@@ -36,22 +34,20 @@ pub fn fault(bytes: &[u8]) -> u8
 }
 
 // The six words of a description.
+#[tactic(auto, unfolding(crate::specs::Description::words))]
 pub fn put_words(out: &mut [u32], d: &[u8]) -> Outcome
     ensures { Delivered (bytes (description.words d.now)) out.old result out.new }
 {
-    let words = super::words::words_of(from_bytes(d));
-    buffer::put_words(out, &words)
+    buffer::put_words(out, &super::words::words_of(from_bytes(d)))
 }
 
 // The description that words are read as; nothing for words that no accepted description writes.
+#[tactic(auto, unfolding(crate::specs::Description::back))]
 pub fn put_back(out: &mut [u8], words: &[u32]) -> Outcome
     ensures { Delivered (bytes (description.back words.now)) out.old result out.new }
 {
-    let read = super::back::read_sum(words);
-    let ops = read.ops;
-    if read.ok {
-        buffer::put_bytes(out, &ops)
-    } else {
-        Outcome::Done(0)
+    match super::back::read_sum(words) {
+        Some(ops) => buffer::put_bytes(out, &ops),
+        None => Outcome::Done(0),
     }
 }

@@ -15,10 +15,3 @@ pub use back::read_sum;
 pub use description::{fault, from_bytes, put_back, put_words};
 pub use model::run_sum;
 pub use words::words_of;
-
-// The operation codes of chain words; where none write the words, ok is false (refusal 16) and the codes are 0.
-#[derive(Clone, Copy)]
-pub struct ReadSum {
-    pub ok: bool,
-    pub ops: [u8; 11],
-}

@@ -7,6 +7,7 @@ ghost use Rattle.sum.specs.Model.{first_pairs, inputs_of, sum_hit, run_sum};
 
 // Lines 0, 2, 3 and 4 of five, each as the lowest bit of a byte: the sources A of the pairs ab, c, d and e [M6]. Line 1,
 // the source B of ab, is two bits above its A. The product has each line at its byte, and what lies between is masked out.
+#[tactic(auto, using(crate::proofs::Sources::lower_sources_law))]
 fn lower_sources(five: u32) -> u32
     requires { five < 32 }
     ensures { result ≡ line five 0 + 4 * line five 1 + 256 * line five 2 + 65536 * line five 3 + 16777216 * line five 4 }
@@ -15,6 +16,7 @@ fn lower_sources(five: u32) -> u32
 }
 
 // Lines 0, 2 and 4 of five, each two bits above the lowest of a byte: the sources B of the pairs c, d and e.
+#[tactic(auto, using(crate::proofs::Sources::upper_sources_law))]
 fn upper_sources(five: u32) -> u32
     requires { five < 32 }
     ensures { result ≡ 1024 * line five 0 + 262144 * line five 2 + 67108864 * line five 4 }
@@ -33,6 +35,7 @@ fn pair_addresses(sources: u32) -> u32
 }
 
 // What both tables of a word answer, as a number of two bits: bit 0 is the low half's at address i, bit 1 the high half's at j.
+#[tactic(auto, using(crate::proofs::Sources::both_law))]
 fn both_at(word: u32, i: u32, j: u32) -> u32
     requires { (i < 16) × (j < 16) }
     ensures { (result ≡ answer_at (low word) i + 2 * answer_at (high word) j) × (result < 4) }
@@ -41,6 +44,7 @@ fn both_at(word: u32, i: u32, j: u32) -> u32
 }
 
 // The inputs of mid1: the answers of the pairs ab, c, d and e, whose tables are the two words' halves.
+#[tactic(auto, using(crate::proofs::Sources::inputs_at_law))]
 fn mid_inputs(first: u32, second: u32, sources: u32) -> u32
     ensures { (result ≡ inputs_of first_pairs first second sources) × (result < 16) }
 {
@@ -54,6 +58,7 @@ fn mid_inputs(first: u32, second: u32, sources: u32) -> u32
 
 // Whether final answers 1: mid1 is the low half of the second word, mid2 its high half. The sources of mid2's pairs, fg,
 // h, i and j, lie as those of ab, c, d and e do: lines 5 to 9 as 0 to 4, lines 11 to 15 as 10 to 14 [M6].
+#[tactic(auto, using(crate::proofs::Sources::last_as_first), unfolding(crate::specs::Model::sum_hit))]
 fn sum_hit(words: &[u32], sources: u32) -> bool
     requires { length words.now ≡ 6 }
     ensures { result ≡ sum_hit words.now sources }
@@ -73,5 +78,5 @@ pub fn run_sum(words: &[u32], sources: u16) -> lut::Answer
     if words.len() != 6 {
         return lut::Answer::WrongCount(6);
     }
-    lut::hit_or_miss(sum_hit(words, sources as u32))
+    lut::hit_or_miss(sum_hit(words, u32::from(sources)))
 }

@@ -58,15 +58,6 @@ pick_pair f zero (suc (suc y)) hx hy = absurd (omega arith)
 pick_pair f (suc zero) (suc (suc y)) hx hy = absurd (omega arith)
 pick_pair f (suc (suc x)) y hx hy = absurd (omega arith)
 
--- three choices, as the code makes them, between four sets whose lines are known
-module _ (a b x₃ x₂ x₁ x₀ u l r k : ℕ) (eu : line u k ≡ cond (eqb (line a k) 1) (line x₃ k) (line x₂ k))
-    (el : line l k ≡ cond (eqb (line a k) 1) (line x₁ k) (line x₀ k)) (er : line r k ≡ cond (eqb (line b k) 1) (line u k) (line l k))
-    (f₃ f₂ f₁ f₀ : ℕ) (h₃ : line x₃ k ≡ f₃) (h₂ : line x₂ k ≡ f₂) (h₁ : line x₁ k ≡ f₁) (h₀ : line x₀ k ≡ f₀) where
-  pub three_choices : line r k ≡ cond (eqb (line b k) 1) (cond (eqb (line a k) 1) f₃ f₂) (cond (eqb (line a k) 1) f₁ f₀)
-  three_choices =
-      er
-      ∙ ap₂ (cond (eqb (line b k) 1)) (eu ∙ ap₂ (cond (eqb (line a k) 1)) h₃ h₂) (el ∙ ap₂ (cond (eqb (line a k) 1)) h₁ h₀)
-
 -- all of them as often as a digit says
 pub spread_digit : (d k : ℕ) → d < 2 → k < 64 → line (d * 0xFFFFFFFFFFFFFFFF) k ≡ d
 spread_digit zero k hd h = in_none k h

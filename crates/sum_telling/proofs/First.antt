@@ -145,14 +145,24 @@ module _ (s : List ℕ) where
   Step start j others r =
       (r ≡ cond (eqb (get_or s j 0) 0) others (start + count_trailing_zeros 64 (get_or s j 0))) × ((get_or s j 0 ≡ 0 → ⊥) → count_trailing_zeros 64 (get_or s j 0) < 64)
 
-  -- the words asked one behind the other
-  pub first_in_set : (a b c d : ℕ) → Step 192 3 256 a → Step 128 2 a b → Step 64 1 b c → Step 0 0 c d → d ≡ first_from (set_test s) 256 0
+  -- no word is asked
+  pub set_start : 256 ≡ first_from (set_test s) 0 256
   unfolding first_from
-  first_in_set a b c d ea eb ec ed =
-      let fa = ea.0 ∙ first_word (set_test s) 0 192 (get_or s 3 0) 256 ea.1 (word_asked s 3) refl in
-      let fb = eb.0 ∙ first_word (set_test s) 64 128 (get_or s 2 0) a eb.1 (word_asked s 2) fa in
-      let fc = ec.0 ∙ first_word (set_test s) 128 64 (get_or s 1 0) b ec.1 (word_asked s 1) fb in
-      ed.0 ∙ first_word (set_test s) 192 0 (get_or s 0 0) c ed.1 (word_asked s 0) fc
+  set_start = refl
+
+  -- one more word is asked, in front of those from i on
+  pub set_step : (i least r : ℕ) → 0 < i → i ≤ 4 → least ≡ first_from (set_test s) (64 * (4 - i)) (64 * i)
+      → Step (64 * (i - 1)) (i - 1) least r → r ≡ first_from (set_test s) (64 * (4 - (i - 1))) (64 * (i - 1))
+  set_step i least r h l e step =
+      let next : 64 * i ≡ 64 * (i - 1) + 64 = omega arith in
+      let more : 64 + 64 * (4 - i) ≡ 64 * (4 - (i - 1)) = omega arith in
+      step.0
+      ∙ first_word (set_test s) (64 * (4 - i)) (64 * (i - 1)) (get_or s (i - 1) 0) least step.1 (word_asked s (i - 1))
+      (e ∙ ap (first_from (set_test s) (64 * (4 - i))) next)
+      ∙ ap (λ (m : ℕ). first_from (set_test s) m (64 * (i - 1))) more
+
+-- what the loop over the words needs
+pub ruleset words = (set_start, set_step)
 
 -- a set of those that pass a test, by lines that say so
 pub first_passes : (s : List ℕ) (p : ℕ → Bool) → ((n : ℕ) → n < 256 → line (get_or s (n / 64) 0) (n % 64) ≡ one_if (p n))

@@ -13,7 +13,8 @@ use Rattle.lines.proofs.Computed.{every_below_law}
 use Rattle.lut.specs.Table.{answer_at, low}
 use Rattle.sum.specs.Model.{first_mid, last_mid, sum_hit}
 use Rattle.sum_telling.specs.Telling.{patterns, differ_at, least_pattern}
-use Rattle.sum_telling.specs.Halves.{Half, first_half, last_half, mid_at, class_at, least_with, half_least, first_sources, last_sources, candidate, row_least, final_least, each_of, found_least}
+use Rattle.sum_telling.specs.declared.half.Half.{Half}
+use Rattle.sum_telling.specs.Halves.{first_half, last_half, mid_at, class_at, least_with, half_least, first_sources, last_sources, candidate, row_least, final_least, each_of, found_least}
 use Rattle.sum_telling.proofs.First.{First, first_is, first_found}
 use Rattle.sum_telling.proofs.Split.{Both, any_both, every_both, first_of, last_of, first_mid_law, last_mid_law}
 

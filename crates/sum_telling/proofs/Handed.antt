@@ -1,6 +1,6 @@
 -- The answer in numbers means what it should, and its cases as the code meets them. Assumes nothing.
 use Prim.Native.Nat.{ℕ, ◌≤◌, ◌<◌}
-use mathlib.Core.Path.{◌≡◌, refl, sym, ap, ap₂, subst, ◌∙◌}
+use mathlib.Core.Path.{◌≡◌, refl, sym, ap, ap₂, ◌∙◌}
 use mathlib.Core.Bool.{Bool, true, false, cond, ◌&&◌, true≢false}
 use mathlib.Core.List.{List}
 use mathlib.Core.Logic.{◌↔◌}
@@ -91,33 +91,23 @@ module _ (old new : List ℕ) where
       go true e false f = means_refused (λ both. true≢false (sym ((is_sum_iff new).1 both.1) ∙ f))
       go false e b f = means_refused (λ both. true≢false (sym ((is_sum_iff old).1 both.0) ∙ e))
 
-  pub told_meets : (t : Told) → t ≡ sum_told old new → (t ≡ sum_told old new) × ToldMeans old new t
-  told_meets t e = (e, subst (ToldMeans old new) (sym e) told_means)
+  pub told_meets : (t : Told) → t ≡ sum_told old new → record { value : t ≡ sum_told old new; meaning : ToldMeans old new t }
+  told_meets t e = record { value = e; meaning = rw e told_means }
 
-  -- ---- the cases
+  -- ---- as the code meets it: the operations are the bytes, b and d, and v and w their words
 
-  pub old_no_sum : is_sum old ≡ false → no_sum ≡ sum_told old new
-  unfolding sum_told
-  old_no_sum e = rw e
-
-  pub new_no_sum : is_sum old ≡ true → is_sum new ≡ false → no_sum ≡ sum_told old new
-  unfolding sum_told
-  new_no_sum e f = rw (e, f)
-
-  module _ (e : is_sum old ≡ true) (f : is_sum new ≡ true) (n : ℕ) (h : n ≡ least_pattern (words_of (from_bytes old)) (words_of (from_bytes new))) where
-    whole : n ≡ found
-    whole =
-        h
-        ∙ ap₂ (λ (a b : List ℕ). least_pattern (words_of a) (words_of b)) (from_whole old ((is_sum_iff old).0 e).eleven) (from_whole new ((is_sum_iff new).0 f).eleven)
-
+  module _ (e : is_sum old ≡ true) (f : is_sum new ≡ true) (b d v w : List ℕ) (n : ℕ) (hb : b ≡ from_bytes old) (hd : d ≡ from_bytes new)
+      (hv : v ≡ words_of b) (hw : w ≡ words_of d) (h : n ≡ least_pattern v w) where
     told : in_numbers n ≡ sum_told old new
     unfolding sum_told
-    told = rw (e, f) (ap in_numbers whole)
+    told =
+        let o : b ≡ old = hb ∙ from_whole old ((is_sum_iff old).0 e).eleven in
+        let p : d ≡ new = hd ∙ from_whole new ((is_sum_iff new).0 f).eleven in
+        let z : n ≡ found = cc in
+        rw (e, f, z)
 
     pub sums_apart : n < patterns → ◌≡◌ {A = Told} (record { number = 1; sources = n }) (sum_told old new)
-    sums_apart l =
-        ap (λ (b : Bool). cond {A = Told} b (record { number = 1; sources = n }) (record { number = 0; sources = 0 })) (sym (lt-ltb n patterns l)) ∙ told
+    sums_apart l = rw (lt-ltb n patterns l) at told
 
     pub sums_alike : patterns ≤ n → ◌≡◌ {A = Told} (record { number = 0; sources = 0 }) (sum_told old new)
-    sums_alike l =
-        ap (λ (b : Bool). cond {A = Told} b (record { number = 1; sources = n }) (record { number = 0; sources = 0 })) (sym (le-ltb n patterns l)) ∙ told
+    sums_alike l = rw (le-ltb n patterns l) at told

@@ -5,6 +5,5 @@ pub mod Split
 pub mod Found
 pub mod Steps
 pub mod Theorems
-pub mod Cases
 pub mod Handed
 pub mod Examples

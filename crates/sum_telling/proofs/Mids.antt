@@ -11,7 +11,8 @@ use Rattle.lines.proofs.Computed.{every_within_law}
 use Rattle.lut.specs.Table.{answer_at, one_if, high, low}
 use Rattle.sum.specs.Model.{pair_at, inputs_of}
 use Rattle.sum_telling.specs.Telling.{first_from}
-use Rattle.sum_telling.specs.Halves.{Half, mid_at, class_at, least_with}
+use Rattle.sum_telling.specs.declared.half.Half.{Half}
+use Rattle.sum_telling.specs.Halves.{mid_at, class_at, least_with}
 use Rattle.sum_telling.proofs.First.{set_test, first_same, first_passes}
 use Rattle.sum_telling.proofs.Chosen.{in_all, in_none}
 
@@ -81,27 +82,29 @@ four_words u₀ u₁ u₂ u₃ x n h e₀ e₁ e₂ e₃ = go (n / 64) refl
 abbrev class_in : (old new : List ℕ) (n : ℕ) → ℕ
 class_in old new n = line (get_or old (n / 64) 0) (n % 64) + 2 * line (get_or new (n / 64) 0) (n % 64)
 
-module _ (old new : List ℕ) (class s₀ s₁ s₂ s₃ : ℕ) where
-  -- word j of the set has the patterns of the class
-  abbrev OfClass : (j s : ℕ) → Type 0
-  OfClass j s = (k : ℕ) → k < 64 → line s k ≡ one_if (eqb (line (get_or old j 0) k + 2 * line (get_or new j 0) k) class)
+module _ (old new s : List ℕ) (class : ℕ) where
+  -- word j of a set has the patterns of the class
+  abbrev pub OfClass : (j : ℕ) → Type 0
+  OfClass j = (k : ℕ) → k < 64 → line (get_or s j 0) k ≡ one_if (eqb (line (get_or old j 0) k + 2 * line (get_or new j 0) k) class)
 
-  word_of : (s n j : ℕ) → OfClass j s → n / 64 ≡ j → line s (n % 64) ≡ one_if (eqb (class_in old new n) class)
-  word_of s n j f e = f (n % 64) (omega arith) ∙ ap (λ (i : ℕ). one_if (eqb (line (get_or old i 0) (n % 64) + 2 * line (get_or new i 0) (n % 64)) class)) (sym e)
-
-  pub class_first : (r : ℕ) → r ≡ first_from (set_test (s₀ ∷ s₁ ∷ s₂ ∷ s₃ ∷ [])) 256 0 → OfClass 0 s₀ → OfClass 1 s₁ → OfClass 2 s₂ → OfClass 3 s₃
+  pub class_first : (r : ℕ) → r ≡ first_from (set_test s) 256 0 → OfClass 0 → OfClass 1 → OfClass 2 → OfClass 3
       → r ≡ first_from (λ n. eqb (class_in old new n) class) 256 0
   class_first r e f₀ f₁ f₂ f₃ =
-      e
-      ∙ first_passes (s₀ ∷ s₁ ∷ s₂ ∷ s₃ ∷ []) (λ n. eqb (class_in old new n) class)
-      (λ n h. four_words s₀ s₁ s₂ s₃ (one_if (eqb (class_in old new n) class)) n h (word_of s₀ n 0 f₀) (word_of s₁ n 1 f₁) (word_of s₂ n 2 f₂) (word_of s₃ n 3 f₃))
+      e ∙ first_passes s (λ n. eqb (class_in old new n) class) (λ n h. word (n / 64) (n % 64) (omega arith) (omega arith))
+    where
+      word : (j k : ℕ) → j < 4 → k < 64 → line (get_or s j 0) k ≡ one_if (eqb (line (get_or old j 0) k + 2 * line (get_or new j 0) k) class)
+      word zero k h = f₀ k
+      word (suc zero) k h = f₁ k
+      word (suc (suc zero)) k h = f₂ k
+      word (suc (suc (suc zero))) k h = f₃ k
+      word (suc (suc (suc (suc j)))) k h = absurd (omega arith)
 
 -- of the sets of a half's mids
-pub half_first : (h g : Half) (old new : List ℕ) (class r : ℕ) → ((n : ℕ) → n < 256 → line (get_or old (n / 64) 0) (n % 64) ≡ mid_at h n)
+pub half_first : (h g : Half) (old new : List ℕ) → ((n : ℕ) → n < 256 → line (get_or old (n / 64) 0) (n % 64) ≡ mid_at h n)
     → ((n : ℕ) → n < 256 → line (get_or new (n / 64) 0) (n % 64) ≡ mid_at g n)
-    → r ≡ first_from (λ n. eqb (class_in old new n) class) 256 0 → r ≡ least_with h g class
+    → (class r : ℕ) → r ≡ first_from (λ n. eqb (class_in old new n) class) 256 0 → r ≡ least_with h g class
 unfolding least_with
-half_first h g old new class r eo en e =
+half_first h g old new eo en class r e =
     e
     ∙ first_same (λ n. eqb (class_in old new n) class) (λ n. eqb (class_at h g n) class) 256 0
     (λ n z l. ap₂ (λ (x y : ℕ). eqb (x + 2 * y) class) (eo n l) (en n l))

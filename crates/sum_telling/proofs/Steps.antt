@@ -1,29 +1,22 @@
 -- What is found by halves, as the code meets it. Assumes nothing.
 use Prim.Native.Nat.{ℕ, zero, suc, ◌+◌, ◌*◌, ◌/◌, ◌%◌, ◌≤◌, ◌<◌}
 use mathlib.Core.Path.{◌≡◌, refl, sym, ap, ap₂, ◌∙◌}
-use mathlib.Core.Bool.{Bool, true, false, not, cond, beq}
+use mathlib.Core.Bool.{Bool, true, false, not, beq}
 use mathlib.Core.List.{List, [], ◌∷◌}
 use mathlib.Core.Logic.{inl, inr}
 use native.Mathlib.Nat.{div-one}
 use native.Mathlib.Omega.{arith}
-use lib.Dec.{eqb, lit<}
-use lib.ListN.{get_or}
+use lib.Dec.{lit<}
+use lib.ListN.{length, get_or}
 use Rattle.lut.specs.Table.{answer_at, one_if, high, low}
 use Rattle.lut.proofs.Tables.{digit_on}
 use Rattle.sum.specs.Model.{first_mid, last_mid, inputs_of, sum_hit}
 use Rattle.sum_telling.specs.Telling.{patterns, differ_at, least_pattern}
-use Rattle.sum_telling.specs.Halves.{Half, first_half, last_half, mid_at, least_with, half_least, packed, first_sources, last_sources, candidate, final_least, each_of, found_least}
+use Rattle.sum_telling.specs.declared.half.Half.{Half}
+use Rattle.sum_telling.specs.Halves.{first_half, last_half, mid_at, least_with, half_least, packed, each_of}
 use Rattle.sum_telling.proofs.First.{first_is}
 use Rattle.sum_telling.proofs.Split.{every_both, first_mid_law, last_mid_law}
 use Rattle.sum_telling.proofs.Found.{with_le, same_none}
-
--- four numbers that are at most m, and what lies past them
-pub four_most : (m a b c d : ℕ) → a ≤ m → b ≤ m → c ≤ m → d ≤ m → (i : ℕ) → get_or (a ∷ b ∷ c ∷ d ∷ []) i 0 ≤ m
-four_most m a b c d ha hb hc hd zero = ha
-four_most m a b c d ha hb hc hd (suc zero) = hb
-four_most m a b c d ha hb hc hd (suc (suc zero)) = hc
-four_most m a b c d ha hb hc hd (suc (suc (suc zero))) = hd
-four_most m a b c d ha hb hc hd (suc (suc (suc (suc i)))) = omega arith
 
 -- the least patterns of four classes, and their sources
 pub half_four : (h g : Half) (a b c d : ℕ) → a ≡ least_with h g 0 → b ≡ least_with h g 1 → c ≡ least_with h g 2 → d ≡ least_with h g 3
@@ -41,31 +34,35 @@ with_found h g c n e = rw e (with_le h g c)
 
 -- each is found again
 unpacked : (a b c d x : ℕ) → a ≤ 256 → b ≤ 256 → c ≤ 256 → d ≤ 256 → x ≡ a + b * 65536 + c * 4294967296 + d * 281474976710656
-    → (x % 65536 ≡ a) × ((x / 65536 % 65536 ≡ b) × ((x / 4294967296 % 65536 ≡ c) × (x / 281474976710656 ≡ d)))
-unpacked a b c d x ha hb hc hd e = (omega arith, (omega arith, (omega arith, omega arith)))
+    → (x % 65536 ≡ a) × (x / 65536 % 65536 ≡ b) × (x / 4294967296 % 65536 ≡ c) × (x / 281474976710656 ≡ d)
+unpacked a b c d x ha hb hc hd e = (omega arith, omega arith, omega arith, omega arith)
 
 pub half_parts : (h g : Half) (x : ℕ) → x ≡ packed (half_least h g)
-    → (x % 65536 ≡ least_with h g 0) × ((x / 65536 % 65536 ≡ least_with h g 1) × ((x / 4294967296 % 65536 ≡ least_with h g 2) × (x / 281474976710656 ≡ least_with h g 3)))
+    → (x % 65536 ≡ least_with h g 0) × (x / 65536 % 65536 ≡ least_with h g 1) × (x / 4294967296 % 65536 ≡ least_with h g 2) × (x / 281474976710656 ≡ least_with h g 3)
 unfolding half_least
 half_parts h g x e =
     unpacked (least_with h g 0) (least_with h g 1) (least_with h g 2) (least_with h g 3) x (with_le h g 0) (with_le h g 1) (with_le h g 2) (with_le h g 3) e
 
--- the sources of each
-pub half_each : (f : ℕ → ℕ) (h g : Half) (n₀ n₁ n₂ n₃ a b c d : ℕ) → n₀ ≡ least_with h g 0 → n₁ ≡ least_with h g 1 → n₂ ≡ least_with h g 2 → n₃ ≡ least_with h g 3
-    → a ≡ f n₀ → b ≡ f n₁ → c ≡ f n₂ → d ≡ f n₃ → a ∷ b ∷ c ∷ d ∷ [] ≡ each_of f (half_least h g)
+-- what holds of a half's pattern and its sources, class by class
+pub each_class : (P : ℕ → ℕ → Type 0) (h g : Half) (x a b c d : ℕ) → x ≡ packed (half_least h g) → P (x % 65536) a → P (x / 65536 % 65536) b
+    → P (x / 4294967296 % 65536) c → P (x / 281474976710656) d → (i : ℕ) → i < 4 → P (least_with h g i) (get_or (a ∷ b ∷ c ∷ d ∷ []) i 0)
+each_class P h g x a b c d e pa pb pc pd zero l = rw (half_parts h g x e).0 at pa
+each_class P h g x a b c d e pa pb pc pd (suc zero) l = rw (half_parts h g x e).1 at pb
+each_class P h g x a b c d e pa pb pc pd (suc (suc zero)) l = rw (half_parts h g x e).2 at pc
+each_class P h g x a b c d e pa pb pc pd (suc (suc (suc zero))) l = rw (half_parts h g x e).3 at pd
+each_class P h g x a b c d e pa pb pc pd (suc (suc (suc (suc i)))) l = absurd (omega arith)
+
+-- the sources of each class of a half
+pub half_each : (f : ℕ → ℕ) (h g : Half) (r : List ℕ) → length r ≡ 4 → ((i : ℕ) → i < 4 → (get_or r i 0 ≡ f (least_with h g i)) × (get_or r i 0 ≤ patterns))
+    → r ≡ each_of f (half_least h g)
 unfolding half_least
-half_each f h g n₀ n₁ n₂ n₃ a b c d e₀ e₁ e₂ e₃ ea eb ec ed =
-    ap₂ ◌∷◌ (ea ∙ ap f e₀) (ap₂ ◌∷◌ (eb ∙ ap f e₁) (ap₂ ◌∷◌ (ec ∙ ap f e₂) (ap₂ ◌∷◌ (ed ∙ ap f e₃) refl)))
-
--- a candidate of two answers
-pub candidate_is : (t u f l c e x y r : ℕ) → x ≡ answer_at t (c % 2 + 2 * (e % 2)) → y ≡ answer_at u (c / 2 + 2 * (e / 2)) → r ≡ f + l + cond (eqb x y) patterns 0
-    → r ≡ candidate t u f l c e
-candidate_is t u f l c e x y r ex ey er = er ∙ ap₂ (λ (p q : ℕ). f + l + cond (eqb p q) patterns 0) ex ey
-
-pub found_joined : (v w f l : List ℕ) → f ≡ each_of first_sources (half_least (first_half v) (first_half w)) → l ≡ each_of last_sources (half_least (last_half v) (last_half w))
-    → final_least (low (get_or v 0 0)) (low (get_or w 0 0)) f l ≡ found_least v w
-unfolding found_least
-found_joined v w f l e g = ap₂ (final_least (low (get_or v 0 0)) (low (get_or w 0 0))) e g
+half_each f h g [] l e = absurd (omega arith)
+half_each f h g (a ∷ []) l e = absurd (omega arith)
+half_each f h g (a ∷ b ∷ []) l e = absurd (omega arith)
+half_each f h g (a ∷ b ∷ c ∷ []) l e = absurd (omega arith)
+half_each f h g (a ∷ b ∷ c ∷ d ∷ []) l e =
+    ap₂ ◌∷◌ (e 0 (lit< tt)).0 (ap₂ ◌∷◌ (e 1 (lit< tt)).0 (ap₂ ◌∷◌ (e 2 (lit< tt)).0 (ap₂ ◌∷◌ (e 3 (lit< tt)).0 refl)))
+half_each f h g (a ∷ b ∷ c ∷ d ∷ x ∷ r) l e = absurd (omega arith)
 
 -- ---- the pattern without a source
 

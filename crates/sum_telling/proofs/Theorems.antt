@@ -1,6 +1,6 @@
 -- What is promised of what tells two sums apart. Assumes nothing.
 use Prim.Native.Nat.{ℕ, ◌+◌, ◌*◌, ◌≤◌, ◌<◌}
-use mathlib.Core.Path.{◌≡◌, refl, sym, ap, ap₂, subst, ◌∙◌}
+use mathlib.Core.Path.{◌≡◌, refl, sym, ap, ap₂, ◌∙◌}
 use mathlib.Core.Bool.{Bool, true, false, cond, beq}
 use mathlib.Core.List.{List}
 use mathlib.Core.Logic.{◌↔◌}
@@ -85,8 +85,9 @@ module _ (old new : List ℕ) where
   alike_exactly = alike_iff (hit old) (hit new) (sum_telling old new) telling_says
 
   -- an answer that is the definition's says what it should
-  pub telling_meets : (t : Telling) → t ≡ sum_telling old new → (t ≡ sum_telling old new) × (Says (hit old) (hit new) t × Least (hit old) (hit new) t)
-  telling_meets t e = (e, (subst (Says (hit old) (hit new)) (sym e) telling_says, subst (Least (hit old) (hit new)) (sym e) telling_least))
+  pub telling_meets : (t : Telling) → t ≡ sum_telling old new
+      → record { value : t ≡ sum_telling old new; meaning : Says (hit old) (hit new) t; least : Least (hit old) (hit new) t }
+  telling_meets t e = record { value = e; meaning = rw e telling_says; least = rw e telling_least }
 
   -- found by halves it is the same, with some hundreds of look-ups
   pub found_apart : (n : ℕ) → found_least v w ≡ n → n < patterns → sum_telling old new ≡ Apart (Sources n)

@@ -6,13 +6,8 @@
 use Rattle.std.specs.Prelude.{ℕ, ◌+◌, ◌*◌, ◌/◌, ◌%◌, min, cond, List, [], ◌∷◌, eqb, get_or}
 use Rattle.lut.specs.Table.{answer_at, high, low}
 use Rattle.sum.specs.Model.{inputs_of}
+use Rattle.sum_telling.specs.declared.half.Half.{Half}
 use Rattle.sum_telling.specs.Telling.{patterns, first_from}
-
--- computed: a half of a sum: two words with the tables of its four pairs, and its mid's table [B6, W14]
-pub record Half : Type 0 where
-  pub first : ℕ
-  pub second : ℕ
-  pub mid : ℕ
 
 -- computed: the half of these three [B6, W14]
 abbrev pub half : (first second mid : ℕ) → Half

@@ -8,6 +8,7 @@ ghost use Rattle.sum_telling.specs.Description as description;
 use lut::Telling;
 
 // The least pattern of the sources that tells two descriptions apart, or that none does.
+#[tactic(auto, unfolding(crate::specs::Description::telling))]
 pub fn telling_of(old: &[u8], new: &[u8]) -> Telling
     ensures value { result ≡ description.telling old.now new.now }
     ensures meaning { Says (hit (from_bytes old.now)) (hit (from_bytes new.now)) result }

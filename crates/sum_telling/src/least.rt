@@ -4,13 +4,13 @@ ghost use Rattle.std.specs.Int.Count.{count_trailing_zeros};
 ghost use Rattle.lines.specs.Line.{line};
 ghost use Rattle.lut.specs.Table.{one_if};
 ghost use Rattle.sum_telling.specs.Telling.{first_from};
-ghost use Rattle.sum_telling.specs.Halves.{half, half_least, packed};
+ghost use Rattle.sum_telling.specs.Halves.{half_least, packed};
 
-use crate::sets::mid_sets;
-
-const ALL: u64 = 0xFFFF_FFFF_FFFF_FFFF;
+use crate::half::Half;
+use crate::sets::{ALL, mid_sets};
 
 // No pattern where a mid has to answer 1, all where it has to answer 0: what turns its answers over.
+#[tactic(auto, using(crate::proofs::Chosen::in_all, crate::proofs::Chosen::in_none))]
 fn turned(answer: u32) -> u64
     ensures { (k : ℕ) → k < 64 → line result k ≡ cond (eqb answer 1) 0 1 }
 {
@@ -18,6 +18,7 @@ fn turned(answer: u32) -> u64
 }
 
 // The patterns that have a class, of 64.
+#[tactic(auto, using(crate::proofs::Chosen::of_class))]
 fn class_set(old: u64, new: u64, class: u32) -> u64
     requires { class < 4 }
     ensures { (k : ℕ) → k < 64 → line result k ≡ one_if (eqb (line old k + 2 * line new k) class) }
@@ -33,18 +34,20 @@ fn first_or(word: u64, start: u32, others: u32) -> u32
     if word == 0 {
         others
     } else {
-        start + u64::trailing_zeros(word)
+        start + word.trailing_zeros()
     }
 }
 
 // The least pattern of a set; 256 if it has none.
+#[tactic(auto, using(crate::proofs::First::words))]
 fn first_in(s: [u64; 4]) -> u32
     ensures { result ≡ first_from (λ n. eqb (line (get_or s (n / 64) 0) (n % 64)) 1) 256 0 }
 {
-    let from3 = first_or(s[3], 192, 256);
-    let from2 = first_or(s[2], 128, from3);
-    let from1 = first_or(s[1], 64, from2);
-    first_or(s[0], 0, from1)
+    let mut least: u32 = 256;
+    for i in (0..4).rev() {
+        least = first_or(s[i], 64 * i as u32, least);
+    }
+    least
 }
 
 // The least pattern that has a class, by where the old and the new mid answer 1; 256 if there is none.
@@ -52,12 +55,7 @@ fn least_with(old: [u64; 4], new: [u64; 4], class: u32) -> u32
     requires { class < 4 }
     ensures { result ≡ first_from (λ n. eqb (line (get_or old (n / 64) 0) (n % 64) + 2 * line (get_or new (n / 64) 0) (n % 64)) class) 256 0 }
 {
-    first_in([
-        class_set(old[0], new[0], class),
-        class_set(old[1], new[1], class),
-        class_set(old[2], new[2], class),
-        class_set(old[3], new[3], class),
-    ])
+    first_in(std::array::from_fn(|i| class_set(old[i], new[i], class)))
 }
 
 // Four patterns in one word: an array would go through memory, and what is read of it wait for what is written.
@@ -65,48 +63,30 @@ fn pack(a: u32, b: u32, c: u32, d: u32) -> u64
     requires { (a ≤ 256) × (b ≤ 256) × (c ≤ 256) × (d ≤ 256) }
     ensures { result ≡ packed (a ∷ b ∷ c ∷ d ∷ []) }
 {
-    a as u64 + b as u64 * 0x1_0000 + c as u64 * 0x1_0000_0000 + d as u64 * 0x1_0000_0000_0000
+    u64::from(a)
+        + u64::from(b) * 0x1_0000
+        + u64::from(c) * 0x1_0000_0000
+        + u64::from(d) * 0x1_0000_0000_0000
 }
 
-// The least patterns of a half that is the same in both sums: its mids answer alike.
-fn same_least(first: u32, second: u32, mid: u32) -> u64
-    ensures { result ≡ packed (half_least (half first second mid) (half first second mid)) }
+// The least patterns of a half by class. A half that is the same in both sums has two classes: its mids answer alike.
+pub(crate) fn half_least(old: &Half, new: &Half) -> u64
+    ensures { result ≡ packed (half_least old.now new.now) }
 {
-    let both = mid_sets(first, second, mid);
-    pack(
-        least_with(both, both, 0),
-        256,
-        256,
-        least_with(both, both, 3),
-    )
-}
-
-// The least patterns of a half by class: a, b and m are what it has in the old sum, c, d and n in the new one.
-fn classes_least(a: u32, b: u32, m: u32, c: u32, d: u32, n: u32) -> u64
-    ensures { result ≡ packed (half_least (half a b m) (half c d n)) }
-{
-    let before = mid_sets(a, b, m);
-    let after = mid_sets(c, d, n);
+    let before = mid_sets(old);
+    if *old == *new {
+        return pack(
+            least_with(before, before, 0),
+            256,
+            256,
+            least_with(before, before, 3),
+        );
+    }
+    let after = mid_sets(new);
     pack(
         least_with(before, after, 0),
         least_with(before, after, 1),
         least_with(before, after, 2),
         least_with(before, after, 3),
     )
-}
-
-// The same, with half the work where the half did not change.
-pub(crate) fn half_least(a: u32, b: u32, m: u32, c: u32, d: u32, n: u32) -> u64
-    ensures { result ≡ packed (half_least (half a b m) (half c d n)) }
-{
-    if a != c {
-        return classes_least(a, b, m, c, d, n);
-    }
-    if b != d {
-        return classes_least(a, b, m, c, d, n);
-    }
-    if m != n {
-        return classes_least(a, b, m, c, d, n);
-    }
-    same_least(a, b, m)
 }

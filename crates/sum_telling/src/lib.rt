@@ -5,6 +5,7 @@
 
 mod description;
 mod finals;
+mod half;
 mod least;
 mod numbers;
 mod sets;

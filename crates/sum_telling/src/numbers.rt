@@ -16,13 +16,11 @@ const NO_SUM: Told = Told {
 const OPERATIONS: usize = 11;
 
 // Whether bytes are eleven operation codes.
+#[tactic(auto, using(crate::proofs::Handed::is_sum_by_fault))]
 fn is_sum(ops: &[u8]) -> bool
     ensures { result ≡ is_sum ops.now }
 {
-    if ops.len() != OPERATIONS {
-        return false;
-    }
-    sum::fault(ops) == 0
+    ops.len() == OPERATIONS && sum::fault(ops) == 0
 }
 
 // 1 and the least pattern that tells the two apart, 0 where none does, 10 where one of them is no sum.
@@ -30,10 +28,7 @@ pub fn told_of(old: &[u8], new: &[u8]) -> Told
     ensures value { result ≡ sum_told old.now new.now }
     ensures meaning { ToldMeans old.now new.now result }
 {
-    if !is_sum(old) {
-        return NO_SUM;
-    }
-    if !is_sum(new) {
+    if !is_sum(old) || !is_sum(new) {
         return NO_SUM;
     }
     let v = sum::words_of(sum::from_bytes(old));

@@ -1,10 +1,6 @@
 -- The model over the words of a pattern hits exactly where the plain rule does. Assumes nothing.
-use mathlib.Core.Path.{◌≡◌, refl, sym, ap, ap₂, ◌∙◌}
-use mathlib.Core.Bool.{true, ◌&&◌, and_comm}
-use Prim.Native.Nat.{ℕ, zero, suc, ◌+◌, ◌*◌, ◌/◌, ◌%◌, ◌^◌, ◌<◌}
-use native.Mathlib.Omega.{arith}
-use lib.Dec.{eqb, lit<}
-use lib.ListN.{length, get_or}
+use Rattle.std.proofs.Common.{◌≡◌, refl, sym, ap, ap₂, ◌∙◌, true, ◌&&◌, ℕ, zero, suc, ◌+◌, ◌*◌, ◌/◌, ◌%◌, ◌^◌, ◌<◌, arith, eqb, lit<, length, get_or}
+use mathlib.Core.Bool.{and_comm}
 use Rattle.lines.specs.Line.{over_lines}
 use Rattle.lines.proofs.Digit.{line_mod}
 use Rattle.lines.proofs.Over.{lines_cong}

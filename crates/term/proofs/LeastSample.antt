@@ -1,12 +1,9 @@
 -- The least sample that tells two patterns apart: it does, and no lesser sample does. Assumes nothing.
 -- A number is within a mask where cutting it to the mask changes nothing.
-use mathlib.Core.Path.{◌≡◌, refl, sym, ap, ◌∙◌}
-use mathlib.Core.Logic.{◌⊎◌, inl, inr, ⊎_elim}
-use Prim.Native.Nat.{ℕ, zero, suc, ◌+◌, ◌/◌, ◌%◌, ◌^◌, ◌<◌, ◌≤◌}
+use Rattle.std.proofs.Common.{◌≡◌, refl, sym, ap, ◌∙◌, ◌⊎◌, inl, inr, ⊎_elim, ℕ, zero, suc, ◌+◌, ◌/◌, ◌%◌, ◌^◌, ◌<◌, ◌≤◌, arith, bit_and, bit_xor}
 use native.Mathlib.Nat.{two-pow-succ}
-use native.Mathlib.Omega.{arith}
 use lib.Arith.{bin_ind}
-use lib.Bits.{bit_and, bit_xor, differ, and_step, and_shr, and_le_l, xor_step, xor_shr}
+use lib.Bits.{differ, and_step, and_shr, and_le_l, xor_step, xor_shr}
 use lib.Count.{count_trailing_zeros}
 
 -- ---- within a mask

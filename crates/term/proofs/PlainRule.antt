@@ -1,13 +1,8 @@
 -- The plain rule: the upper lines and the lower ones, the formula of XOR and AND, and the same by cut numbers. Assumes
 -- nothing.
-use mathlib.Core.Path.{◌≡◌, refl, ap, ◌∙◌}
-use mathlib.Core.Bool.{Bool, true, ◌&&◌, and_assoc, beq}
-use mathlib.Core.List.{List, [], ◌∷◌}
-use Prim.Native.Nat.{ℕ, ◌+◌, ◌/◌, ◌^◌, ◌<◌}
-use native.Mathlib.Omega.{arith}
-use lib.Bits.{bit_and, bit_xor, and_lt, and_le_r, xor_lt}
-use lib.Dec.{eqb}
-use lib.ListN.{get_or}
+use Rattle.std.proofs.Common.{◌≡◌, refl, ap, ◌∙◌, Bool, true, ◌&&◌, List, [], ◌∷◌, ℕ, ◌+◌, ◌/◌, ◌^◌, ◌<◌, arith, bit_and, bit_xor, eqb, get_or}
+use mathlib.Core.Bool.{and_assoc, beq}
+use lib.Bits.{and_lt, and_le_r, xor_lt}
 use Rattle.lines.specs.Line.{line}
 use Rattle.lines.proofs.Computed.{digits, every_within_law}
 use Rattle.lines.proofs.Digit.{line_up, line_and, line_xor}

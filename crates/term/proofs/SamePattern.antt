@@ -1,34 +1,27 @@
 -- Equal words, the same pattern once cut, and hits alike on every sample are one thing, and `term_telling` gives the least sample
 -- that tells two other patterns apart. Assumes nothing.
-use mathlib.Core.Path.{◌≡◌, sym, ap, ap₂, ◌∙◌}
-use mathlib.Core.Bool.{Bool, true, false, not}
-use mathlib.Core.Logic.{⊎_elim}
-use mathlib.Core.List.{List}
-use Prim.Native.Nat.{ℕ, ◌+◌, ◌^◌, ◌<◌, min}
-use native.Mathlib.Nat.{min-eq_left, min-eq_right, le_of_lt}
+use Rattle.std.proofs.Common.{◌≡◌, sym, ap, ap₂, ◌∙◌, Bool, true, false, not, ⊎_elim, List, ℕ, ◌+◌, ◌^◌, ◌<◌, min, le_of_lt, arith, bit_and, bit_xor, eqb, pow_pos, eq-eqb, ne_eqb, Some}
+use native.Mathlib.Nat.{min-eq_left, min-eq_right}
 use native.Mathlib.Decide.{ℕ_discrete, dec_lt}
-use native.Mathlib.Omega.{arith}
-use lib.Bits.{bit_and, bit_xor, and_le_l, and_le_r, xor_comm}
+use lib.Bits.{and_le_l, and_le_r, xor_comm}
 use lib.Count.{count_trailing_zeros}
-use lib.Dec.{eqb}
-use lib.Pow.{pow_pos}
-use borrow.Author.Tests.{eq-eqb, ne_eqb}
 use Rattle.lines.proofs.Truth.{eqb_iff}
 use Rattle.lut.specs.Input.{on_sample}
 use Rattle.lut.specs.Telling.{HitAlike, TellsApart, Says, Least}
 use Rattle.lut.specs.declared.Input.TheVariants.{Sample}
 use Rattle.lut.specs.declared.Telling.{Telling}
 use Rattle.lut.specs.declared.Telling.TheVariants.{Alike, Apart}
-use Rattle.term.specs.Rule.{term_hit}
+use Rattle.term.specs.Rule.{term_hit, hit, Accepted}
 use Rattle.term.specs.Words.{term_words}
 use Rattle.term.specs.Model.{chain_hit}
 use Rattle.term.specs.Back.{read_term}
-use Rattle.term.specs.declared.ReadTerm.TheVariants.{Pattern}
+use Rattle.term.specs.declared.Pattern.{Pattern}
 use Rattle.term.specs.Telling.{term_telling, lowest_line}
 use Rattle.term.proofs.PlainRule.{term_masked}
 use Rattle.term.proofs.LeastSample.{cut_within, lowest, below_alike, lowest_tells, Tells}
 use Rattle.term.proofs.ReadingBack.{read_words, term_words_cut}
 use Rattle.term.proofs.Hits.{term_hits}
+use Rattle.term.proofs.Stepping.{exponent_lt}
 use Rattle.lut.proofs.Asked.{alike_on_samples}
 
 -- a sample tells two patterns apart, and no lesser one does
@@ -54,12 +47,6 @@ module _ (t₁ m₁ t₂ m₂ : ℕ) where
   pub least_target : (bit_and t₁ m₁ ≡ bit_and t₂ m₂ → ⊥) → term_telling t₁ m₁ t₂ m₂ ≡ Apart (Sample (min (bit_and t₁ m₁) (bit_and t₂ m₂)))
   unfolding term_telling
   least_target e = simp (ne_eqb _ _ e)
-
-  pub least_first : bit_and t₁ m₁ < bit_and t₂ m₂ → term_telling t₁ m₁ t₂ m₂ ≡ Apart (Sample (bit_and t₁ m₁))
-  least_first l = least_target (λ e. omega arith) ∙ ap (λ (s : ℕ). Apart (Sample s)) (min-eq_left (le_of_lt l))
-
-  pub least_second : bit_and t₂ m₂ < bit_and t₁ m₁ → term_telling t₁ m₁ t₂ m₂ ≡ Apart (Sample (bit_and t₂ m₂))
-  least_second l = least_target (λ e. omega arith) ∙ ap (λ (s : ℕ). Apart (Sample s)) (min-eq_right (le_of_lt l))
 
 -- ---- what each case says
 
@@ -141,17 +128,15 @@ module _ (t₁ m₁ t₂ m₂ : ℕ) (ht₁ : t₁ < 2 ^ 32) (hm₁ : m₁ < 2 ^
       go (yes e) (no f) = rw (least_mask t₁ m₁ t₂ m₂ e f) (let l = says_mask t₁ m₁ t₂ m₂ ht₁ hm₁ ht₂ hm₂ e f in (l.apart, l.least))
       go (no e) f = rw (least_target t₁ m₁ t₂ m₂ e) (let l = says_lesser e in (l.apart, l.least))
 
-  -- both promises of the call follow from its first
-  pub answer_says : (r : Telling) → r ≡ term_telling t₁ m₁ t₂ m₂
-      → (r ≡ term_telling t₁ m₁ t₂ m₂) × SaysLeast (term_hit t₁ m₁) (term_hit t₂ m₂) r
-  answer_says r e = (e, rw e telling_law)
-
   -- ---- equal words, equal masks and cut targets, hits alike on every sample
 
   pub words_same : term_words t₁ m₁ ≡ term_words t₂ m₂ → (m₁ ≡ m₂) × (bit_and t₁ m₁ ≡ bit_and t₂ m₂)
   words_same e =
-      let r : Pattern (bit_and t₁ m₁) m₁ ≡ Pattern (bit_and t₂ m₂) m₂ = sym (read_words t₁ m₁ ht₁ hm₁) ∙ ap read_term e ∙ read_words t₂ m₂ ht₂ hm₂ in
-      (cc, cc)
+      let p : Pattern = record { target = bit_and t₁ m₁; mask = m₁ } in
+      let q : Pattern = record { target = bit_and t₂ m₂; mask = m₂ } in
+      let r : Some p ≡ Some q = sym (read_words t₁ m₁ ht₁ hm₁) ∙ ap read_term e ∙ read_words t₂ m₂ ht₂ hm₂ in
+      let same : p ≡ q = cc in
+      (ap (λ (x : Pattern). x.mask) same, ap (λ (x : Pattern). x.target) same)
 
   pub same_words : m₁ ≡ m₂ → bit_and t₁ m₁ ≡ bit_and t₂ m₂ → term_words t₁ m₁ ≡ term_words t₂ m₂
   same_words f e = sym (term_words_cut t₁ m₁) ∙ ap₂ term_words e f ∙ term_words_cut t₂ m₂
@@ -172,3 +157,18 @@ module _ (t₁ m₁ t₂ m₂ : ℕ) (ht₁ : t₁ < 2 ^ 32) (hm₁ : m₁ < 2 ^
 
   pub alike_words : HitAlike (on_sample (term_hit t₁ m₁)) (on_sample (term_hit t₂ m₂)) → term_words t₁ m₁ ≡ term_words t₂ m₂
   alike_words h = let p = alike_same h in same_words p.0 p.1
+
+-- ---- the call
+
+module _ (a b : Pattern) (p : Accepted a) (q : Accepted b) where
+  -- both other promises follow from the first
+  pub answer_says : (r : Telling) → r ≡ term_telling a.target a.mask b.target b.mask → Says (hit a) (hit b) r × Least (hit a) (hit b) r
+  answer_says r e = rw e (telling_law a.target a.mask b.target b.mask p.target_fits p.mask_fits q.target_fits q.mask_fits)
+
+  -- where only the masks differ, the sum is a sample, and so the line is one of the 32
+  module _ (e : bit_and a.target a.mask ≡ bit_and b.target b.mask) (n : a.mask ≡ b.mask → ⊥) where
+    pub sum_fits : bit_and a.target a.mask + lowest_line (bit_xor a.mask b.mask) < 2 ^ 32
+    sum_fits = (says_mask a.target a.mask b.target b.mask p.target_fits p.mask_fits q.target_fits q.mask_fits e n).apart.fits
+
+    pub lowest_fits : count_trailing_zeros 32 (bit_xor a.mask b.mask) < 32
+    lowest_fits = exponent_lt _ (omega (arith, sum_fits))

@@ -1,23 +1,12 @@
 -- The loops, one word or one line at a time: what is left decides. Assumes nothing.
-use mathlib.Core.Path.{◌≡◌, sym, ap, ◌∙◌}
-use mathlib.Core.Bool.{Bool, true, false, ◌&&◌}
-use mathlib.Core.List.{List}
-use Prim.Native.Nat.{ℕ, suc, ◌+◌, ◌-◌, ◌*◌, ◌/◌, ◌%◌, ◌^◌, ◌<◌, ◌≤◌}
-use native.Mathlib.Nat.{lt_of_lt_of_le, lt_of_not-le}
-use native.Mathlib.Numerals.{add-one}
-use native.Mathlib.Omega.{arith}
+use Rattle.std.proofs.Common.{◌≡◌, sym, ap, ◌∙◌, Bool, true, false, ◌&&◌, List, ℕ, suc, ◌+◌, ◌-◌, ◌*◌, ◌/◌, ◌%◌, ◌^◌, ◌<◌, ◌≤◌, lt_of_lt_of_le, lt_of_not-le, add-one, arith, bit_xor, eqb, length, get_or, drop, length-drop, drop_of_length-le, pow-add, pow_mono, drop-cons}
 use lib.Arith.{digits_lt}
-use lib.Bits.{bit_xor, xor_lt}
-use lib.Dec.{eqb}
-use lib.ListN.{length, get_or, drop, length-drop, drop_of_length-le}
-use lib.Pow.{pow-add, pow_mono, pow-lt}
-use lib.Seq.{drop-cons}
+use lib.Bits.{xor_lt}
+use lib.Pow.{pow-lt}
 use Rattle.lines.proofs.Digit.{shifted_one}
 use Rattle.lut.specs.Table.{answer_at}
 use Rattle.term.specs.Model.{word_hit, chain_hit}
 use Rattle.term.specs.Back.{line_masked, word_part, lines_after}
-use Rattle.term.specs.declared.back.Part.{Part}
-use Rattle.term.proofs.ReadingBack.{word_part_lt}
 
 -- ---- the model: the word at i of four has the lines from 24 - 8 i up
 
@@ -45,29 +34,28 @@ unfolding chain_hit
 ask_end ws s i true e h asked = asked ∙ ap (λ (l : List ℕ). chain_hit l s) (drop_of_length-le ws {i = i} (omega arith))
 ask_end ws s i false e h asked = asked
 
--- ---- reading: `lines` has what the first i words have of a part
+-- ---- reading: what i words have has 8 i lines, and of four words there is room for one more
 
-pub record Decoding (p : Part) (ws : List ℕ) (lines i : ℕ) : Type 0 where
-  pub small : lines < 2 ^ (8 * i)
-  pub rest : lines_after p 0 ws ≡ lines_after p lines (drop i ws)
+pub lines_room : (lines i : ℕ) → lines < 2 ^ (8 * i) → i < 4 → lines < 2 ^ 24
+lines_room lines i small h = lt_of_lt_of_le small (pow_mono {i = 8 * i} {j = 24} (omega arith))
 
-module _ (p : Part) (ws : List ℕ) (lines i : ℕ) (d : Decoding p ws lines i) where
-  -- of four words, there is room for one more
-  pub decode_room : i < 4 → lines < 2 ^ 24
-  decode_room h = lt_of_lt_of_le d.small (pow_mono {i = 8 * i} {j = 24} (omega arith))
+pub lines_grow : (lines i x : ℕ) → lines < 2 ^ (8 * i) → x < 2 ^ 8 → lines * 256 + x < 2 ^ (8 * (i + 1))
+lines_grow lines i x small h =
+    let e : 8 * (i + 1) ≡ 8 * i + 8 = omega arith in
+    rw (e, pow-add 2 (8 * i) 8) (digits_lt small h)
 
-  pub decode_more : i < length ws → (x : ℕ) → x ≡ word_part p (get_or ws i 0) → Decoding p ws (lines * 256 + x) (i + 1)
+-- `lines` has what the first i words have of a part
+abbrev pub Decoding : (part : ℕ → ℕ) (ws : List ℕ) (lines i : ℕ) → Type 0
+Decoding part ws lines i = lines_after part 0 ws ≡ lines_after part lines (drop i ws)
+
+module _ (part : ℕ → ℕ) (ws : List ℕ) (lines i : ℕ) (d : Decoding part ws lines i) where
+  pub decode_more : i < length ws → (x : ℕ) → x ≡ word_part part (get_or ws i 0) → Decoding part ws (lines * 256 + x) (i + 1)
   unfolding lines_after
-  decode_more h x ex =
-      let e : 8 * (i + 1) ≡ 8 * i + 8 = omega arith in
-      record {
-        small = rw (e, pow-add 2 (8 * i) 8, ex) (digits_lt d.small (word_part_lt p (get_or ws i 0)));
-        rest = d.rest ∙ rw (add-one, ex) (ap (lines_after p lines) (drop-cons ws i 0 h));
-      }
+  decode_more h x ex = d ∙ rw (add-one, ex) (ap (lines_after part lines) (drop-cons ws i 0 h))
 
-  pub decode_end : length ws ≤ i → lines_after p 0 ws ≡ lines
+  pub decode_end : length ws ≤ i → lines_after part 0 ws ≡ lines
   unfolding lines_after
-  decode_end h = d.rest ∙ ap (lines_after p lines) (drop_of_length-le ws {i = i} h)
+  decode_end h = d ∙ ap (lines_after part lines) (drop_of_length-le ws {i = i} h)
 
 -- ---- a table asked at an address with one line changed, as the machine computes it
 

@@ -1,13 +1,6 @@
 -- What is promised of patterns. Assumes nothing.
-use mathlib.Core.Path.{◌≡◌, refl, ap, ap₂}
-use mathlib.Core.Bool.{true}
-use mathlib.Core.List.{List, [], ◌∷◌}
-use mathlib.Core.Logic.{◌↔◌}
-use Prim.Native.Nat.{ℕ, ◌^◌}
+use Rattle.std.proofs.Common.{◌≡◌, refl, ap, ap₂, true, List, [], ◌∷◌, ◌↔◌, ℕ, ◌^◌, lit<, length, bit_and, Option, Some, None}
 use native.Mathlib.Nat.{zero-div}
-use lib.Dec.{lit<}
-use lib.ListN.{length}
-use lib.Bits.{bit_and}
 use Rattle.lines.specs.Line.{line}
 use Rattle.lines.proofs.Over.{every_all}
 use Rattle.peek.specs.Bytes.{Bytes}
@@ -26,7 +19,6 @@ use Rattle.term.specs.Model.{chain_hit, run_term}
 use Rattle.term.specs.Back.{read_term, read_number}
 use Rattle.term.specs.Telling.{term_telling}
 use Rattle.term.specs.declared.Pattern.{Pattern}
-use Rattle.term.specs.declared.ReadTerm.{ReadTerm}
 use Rattle.term.proofs.Hits.{term_words_length, term_hits}
 use Rattle.term.proofs.ReadingBack.{read_words, read_means, read_numbered}
 use Rattle.term.proofs.SamePattern.{words_alike, alike_words, telling_law}
@@ -44,18 +36,18 @@ mask_zero_hits t s =
     every_all 32 (λ i. line_hit (line t i) (line 0 i) (line s i)) (λ i h. rw (zero-div (2 ^ i)))
 
 -- a pattern's words are read as the pattern, its target cut to its mask [C5, C7, D2.5]
-pub words_read_back : (p : Pattern) → Accepted p → read_term (words_of p) ≡ ReadTerm.Pattern (bit_and p.target p.mask) p.mask
+pub words_read_back : (p : Pattern) → Accepted p → read_term (words_of p) ≡ Some (record { target = bit_and p.target p.mask; mask = p.mask })
 words_read_back p a = read_words p.target p.mask a.target_fits a.mask_fits
 
 -- words are refused unless an accepted pattern writes them [C5, F16, D2.6]
-pub accepted_iff_written : (words : List ℕ) → (read_term words ≡ ReadTerm.Refused → ⊥) ↔ Written Accepted words_of words
+pub accepted_iff_written : (words : List ℕ) → (read_term words ≡ None → ⊥) ↔ Written Accepted words_of words
 accepted_iff_written ws =
     let numbered = read_numbered ws (read_term ws) (read_means ws) in
     (λ n. numbered.read.0 (unrefused (read_term ws) n), λ w e. numbered.refused.0 (ap read_number e) w)
   where
-    unrefused : (r : ReadTerm) → (r ≡ ReadTerm.Refused → ⊥) → read_number r ≡ 0
-    unrefused (ReadTerm.Pattern t m) n = refl
-    unrefused ReadTerm.Refused n = absurd (n refl)
+    unrefused : (r : Option Pattern) → (r ≡ None → ⊥) → read_number r ≡ 0
+    unrefused (Some p) n = refl
+    unrefused None n = absurd (n refl)
 
 module _ (a b : Pattern) (p : Accepted a) (q : Accepted b) where
   -- two patterns have the same chain words exactly when no sample tells them apart [D3.1]

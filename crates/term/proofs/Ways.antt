@@ -1,17 +1,11 @@
 -- The way there and back of a pattern's description: its words are read as it is, the target cut, and what is read has no fault and
 -- writes the words. Assumes nothing.
-use Prim.Native.Nat.{ℕ, ◌<◌, ◌^◌}
-use mathlib.Core.Path.{◌≡◌, refl, sym, ap, ap₂, ◌∙◌}
-use mathlib.Core.List.{List, [], ◌∷◌}
-use mathlib.Core.Logic.{◌↔◌}
-use native.Mathlib.Nat.{not-suc-le-zero}
-use lib.Dec.{lit<}
-use lib.ListN.{length, get_or}
+use Rattle.std.proofs.Common.{ℕ, ◌<◌, ◌^◌, ◌≡◌, refl, sym, ap, ap₂, ◌∙◌, List, [], ◌∷◌, ◌↔◌, not-suc-le-zero, lit<, length, get_or, Option, Some, None}
 use Rattle.peek.specs.Bytes.{Bytes}
 use Rattle.peek.specs.Fields.{field_of, field_bytes, Writes}
 use Rattle.peek.proofs.Numbers.{u32_small}
 use Rattle.peek.proofs.FieldLaws.{fields_bytes, fields_read, fit₂}
-use Rattle.term.specs.declared.ReadTerm.{ReadTerm}
+use Rattle.term.specs.declared.Pattern.{Pattern}
 use Rattle.term.specs.Rule.{Accepted}
 use Rattle.term.specs.Words.{term_words}
 use Rattle.term.specs.Back.{read_term, ReadMeans}
@@ -40,17 +34,17 @@ pub back_words : (d : List ℕ) → Bytes d → length d ≡ size → fault d �
 unfolding back words cut
 back_words d h l f = ap bytes_read (words_read_back (from_bytes d) (accepted d h f))
 
-read_writes : (ws : List ℕ) (r : ReadTerm) → ReadMeans ws r → 0 < length (bytes_read r) → Writes size fault words ws (bytes_read r)
+read_writes : (ws : List ℕ) (r : Option Pattern) → ReadMeans ws r → 0 < length (bytes_read r) → Writes size fault words ws (bytes_read r)
 unfolding fault words field_bytes
-read_writes ws (ReadTerm.Pattern t m) w h =
-    let read = fields_read (t ∷ m ∷ []) (fit₂ t m w.target_fits w.mask_fits) in
+read_writes ws (Some p) w h =
+    let read = fields_read (p.target ∷ p.mask ∷ []) (fit₂ p.target p.mask w.target_fits w.mask_fits) in
     record {
-      are_bytes = fields_bytes (t ∷ m ∷ []);
+      are_bytes = fields_bytes (p.target ∷ p.mask ∷ []);
       whole = refl;
       faultless = refl;
       written = ap₂ term_words (read 0 (lit< tt)) (read 1 (lit< tt)) ∙ sym w.written;
     }
-read_writes ws ReadTerm.Refused w h = absurd (not-suc-le-zero h)
+read_writes ws None w h = absurd (not-suc-le-zero h)
 
 pub back_writes : (ws : List ℕ) → 0 < length (back ws) → Writes size fault words ws (back ws)
 unfolding back

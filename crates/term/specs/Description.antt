@@ -1,10 +1,9 @@
 -- A pattern's description in a sheet, as bytes: what every kind of record answers of its own.
-use Rattle.std.specs.Prelude.{ℕ, List, [], ◌∷◌}
+use Rattle.std.specs.Prelude.{ℕ, Option, Some, None, List, [], ◌∷◌}
 use Rattle.std.specs.Int.Bits.{bit_and}
 use Rattle.lut.specs.declared.Telling.{Telling}
 use Rattle.peek.specs.Fields.{field_of, field_bytes}
 use Rattle.term.specs.declared.Pattern.{Pattern}
-use Rattle.term.specs.declared.ReadTerm.{ReadTerm}
 use Rattle.term.specs.Words.{words_of}
 use Rattle.term.specs.Back.{read_term}
 use Rattle.term.specs.Telling.{term_telling}
@@ -30,9 +29,9 @@ unfoldable pub words : List ℕ → List ℕ
 words d = words_of (from_bytes d)
 
 -- the description of an answer of the way back; no bytes where it is refused [B7, C5]
-abbrev pub bytes_read : ReadTerm → List ℕ
-bytes_read (ReadTerm.Pattern target mask) = to_bytes (record { target = target; mask = mask })
-bytes_read ReadTerm.Refused = []
+abbrev pub bytes_read : Option Pattern → List ℕ
+bytes_read (Some p) = to_bytes p
+bytes_read None = []
 
 -- computed: the description that words are read as, no bytes if there is none; theorem read_means [B6, B7, C5, F16]
 unfoldable pub back : List ℕ → List ℕ

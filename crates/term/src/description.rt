@@ -6,7 +6,7 @@ ghost use Rattle.term.specs.Rule.{hit};
 ghost use Rattle.term.specs.Description.{from_bytes};
 ghost use Rattle.term.specs.Description as description;
 
-use crate::{Pattern, ReadTerm};
+use crate::Pattern;
 use buffer::Outcome;
 use lut::Telling;
 
@@ -29,8 +29,7 @@ fn to_bytes(out: &mut [u8], p: Pattern) -> Outcome
 pub fn put_words(out: &mut [u32], d: &[u8]) -> Outcome
     ensures { Delivered (bytes (description.words d.now)) out.old result out.new }
 {
-    let p = from_bytes(d);
-    let words = super::words::term_words(p.target, p.mask);
+    let words = super::words::term_words(from_bytes(d));
     buffer::put_words(out, &words)
 }
 
@@ -39,8 +38,8 @@ pub fn put_back(out: &mut [u8], words: &[u32]) -> Outcome
     ensures { Delivered (bytes (description.back words.now)) out.old result out.new }
 {
     match super::back::read_term(words) {
-        ReadTerm::Pattern(target, mask) => to_bytes(out, Pattern { target, mask }),
-        ReadTerm::Refused => Outcome::Done(0),
+        Some(pattern) => to_bytes(out, pattern),
+        None => Outcome::Done(0),
     }
 }
 
@@ -50,7 +49,5 @@ pub fn telling_of(old: &[u8], new: &[u8]) -> Telling
     ensures meaning { Says (hit (from_bytes old.now)) (hit (from_bytes new.now)) result }
     ensures least { Least (hit (from_bytes old.now)) (hit (from_bytes new.now)) result }
 {
-    let a = from_bytes(old);
-    let b = from_bytes(new);
-    super::telling::term_telling(a.target, a.mask, b.target, b.mask)
+    super::telling::term_telling(from_bytes(old), from_bytes(new))
 }

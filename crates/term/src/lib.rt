@@ -21,12 +21,3 @@ pub struct Pattern {
     pub target: u32,
     pub mask: u32,
 }
-
-// What chain words are read as.
-#[derive(Clone, Copy)]
-pub enum ReadTerm {
-    // A target, cut to the mask, and the mask.
-    Pattern(u32, u32),
-    // No pattern writes these words.
-    Refused,
-}

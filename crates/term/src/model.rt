@@ -7,11 +7,8 @@ ghost use Rattle.term.specs.Model.{word_hit, run_term};
 fn word_hit(word: u32, sample: u32) -> bool
     ensures { result ≡ word_hit word sample }
 {
-    if lut::answer_at(word % 65536, sample % 16) == 1 {
-        lut::answer_at(word / 65536, sample / 16 % 16) == 1
-    } else {
-        false
-    }
+    lut::answer_at(word % 65536, sample % 16) == 1
+        && lut::answer_at(word / 65536, sample / 16 % 16) == 1
 }
 
 // A hit if none of the eight tables answers 0. All are asked: an early end would be mispredicted.
@@ -23,11 +20,8 @@ pub fn run_term(words: &[u32], sample: u32) -> lut::Answer
         return lut::Answer::WrongCount(4);
     }
     let mut hit = true;
-    let mut i = 0;
-    while i < 4 {
-        let here = word_hit(words[i], sample >> (24 - 8 * i));
-        hit = hit && here;
-        i += 1;
+    for (i, word) in words.iter().enumerate() {
+        hit &= word_hit(*word, sample >> (24 - 8 * i));
     }
     lut::hit_or_miss(hit)
 }

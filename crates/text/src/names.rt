@@ -1,4 +1,4 @@
-// What each thing is called: one match for each question, every answer of one length, with spaces at its end.
+// What each thing is called: one match for each question.
 
 ghost use Rattle.std.specs.Prelude.{◌≡◌, ltb};
 ghost use Rattle.records.specs.Sections.{sections};
@@ -7,82 +7,83 @@ ghost use Rattle.text.specs.Sections.{is_named};
 use crate::Section;
 use kinds::{EDGES, RANGES, STATES, SUMS, TERMS};
 
-pub fn section_at(number: usize) -> Section
+// None where no sheet has the section.
+pub fn section_at(number: usize) -> Option<Section>
     ensures { is_named result ≡ ltb number sections }
 {
     match number {
-        TERMS => Section::Terms,
-        RANGES => Section::Ranges,
-        EDGES => Section::Edges,
-        SUMS => Section::Sums,
-        STATES => Section::States,
-        _ => Section::Nothing,
+        TERMS => Some(Section::Terms),
+        RANGES => Some(Section::Ranges),
+        EDGES => Some(Section::Edges),
+        SUMS => Some(Section::Sums),
+        STATES => Some(Section::States),
+        _ => None,
     }
 }
 
-pub fn section_name(number: usize) -> [u8; 8] {
+pub fn section_name(number: usize) -> &'static str {
     match section_at(number) {
-        Section::Terms => *b"terms   ",
-        Section::Ranges => *b"ranges  ",
-        Section::Edges => *b"edges   ",
-        Section::Sums => *b"sums    ",
-        Section::States => *b"states  ",
-        Section::Nothing => *b"sections",
+        Some(Section::Terms) => "terms",
+        Some(Section::Ranges) => "ranges",
+        Some(Section::Edges) => "edges",
+        Some(Section::Sums) => "sums",
+        Some(Section::States) => "states",
+        None => "sections",
     }
 }
 
 // Operation byte i of a sum: which stage it sets.
-pub fn stage_name(i: usize) -> [u8; 8] {
+pub fn stage_name(i: usize) -> &'static str {
     match i {
-        0 => *b"ab      ",
-        1 => *b"c       ",
-        2 => *b"d       ",
-        3 => *b"e       ",
-        4 => *b"fg      ",
-        5 => *b"h       ",
-        6 => *b"i       ",
-        7 => *b"j       ",
-        8 => *b"mid1    ",
-        9 => *b"mid2    ",
-        _ => *b"final   ",
+        0 => "ab",
+        1 => "c",
+        2 => "d",
+        3 => "e",
+        4 => "fg",
+        5 => "h",
+        6 => "i",
+        7 => "j",
+        8 => "mid1",
+        9 => "mid2",
+        _ => "final",
     }
 }
 
 // Source i of a sum: a slot, or one of the two timers.
-pub fn source_name(i: usize) -> [u8; 8] {
+pub fn source_name(i: usize) -> &'static str {
     match i {
-        0 => *b"TERM 00 ",
-        1 => *b"TERM 01 ",
-        2 => *b"TERM 02 ",
-        3 => *b"TERM 03 ",
-        4 => *b"TERM 04 ",
-        5 => *b"TERM 05 ",
-        6 => *b"TERM 06 ",
-        7 => *b"TERM 07 ",
-        8 => *b"TERM 08 ",
-        9 => *b"TERM 09 ",
-        10 => *b"RANG 00 ",
-        11 => *b"RANG 01 ",
-        12 => *b"EDGE 00 ",
-        13 => *b"EDGE 01 ",
-        14 => *b"timer 1 ",
-        _ => *b"timer 2 ",
+        0 => "TERM 00",
+        1 => "TERM 01",
+        2 => "TERM 02",
+        3 => "TERM 03",
+        4 => "TERM 04",
+        5 => "TERM 05",
+        6 => "TERM 06",
+        7 => "TERM 07",
+        8 => "TERM 08",
+        9 => "TERM 09",
+        10 => "RANG 00",
+        11 => "RANG 01",
+        12 => "EDGE 00",
+        13 => "EDGE 01",
+        14 => "timer 1",
+        _ => "timer 2",
     }
 }
 
-pub fn operation_name(code: u8) -> [u8; 8] {
+pub fn operation_name(code: u8) -> &'static str {
     match code {
-        0 => *b"NOP     ",
-        1 => *b"ANY     ",
-        2 => *b"AND     ",
-        3 => *b"NAND    ",
-        4 => *b"OR      ",
-        5 => *b"NOR     ",
-        6 => *b"XOR     ",
-        7 => *b"NXOR    ",
-        8 => *b"A       ",
-        9 => *b"B       ",
-        _ => *b"?       ",
+        0 => "NOP",
+        1 => "ANY",
+        2 => "AND",
+        3 => "NAND",
+        4 => "OR",
+        5 => "NOR",
+        6 => "XOR",
+        7 => "NXOR",
+        8 => "A",
+        9 => "B",
+        _ => "?",
     }
 }
 
@@ -92,15 +93,15 @@ pub const ELSE_STATE: usize = 4;
 pub const FLAGS: usize = 5;
 
 // Flag byte i of a state.
-pub fn flag_name(i: usize) -> [u8; 8] {
+pub fn flag_name(i: usize) -> &'static str {
     match i {
-        0 => *b"stop1   ",
-        1 => *b"stop2   ",
-        2 => *b"clear1  ",
-        3 => *b"clear2  ",
-        4 => *b"start1  ",
-        5 => *b"start2  ",
-        6 => *b"trigger ",
-        _ => *b"last    ",
+        0 => "stop1",
+        1 => "stop2",
+        2 => "clear1",
+        3 => "clear2",
+        4 => "start1",
+        5 => "start2",
+        6 => "trigger",
+        _ => "last",
     }
 }

@@ -62,6 +62,14 @@ pub const REFUSED: u8 = 1;
 
 pub const TROUBLE: u8 = 2;
 
+// A file: its name, its bytes, and their digest in hex.
+#[derive(Clone, Copy)]
+struct File<'a> {
+    name: &'a [u8],
+    bytes: &'a [u8],
+    digest: &'a [u8],
+}
+
 // Runs a verb on the names and bytes of its files. A verb that has one file ignores the second.
 pub fn run(
     verb: Verb,
@@ -76,20 +84,20 @@ pub fn run(
 ) -> Ended
     ensures { Ran verb (file first_name.now first.now first_digest.now) (file second_name.now second.now second_digest.now) out.old err.old result out.new err.new }
 {
-    let came = work::work(
-        verb,
-        first_name,
-        first,
-        first_digest,
-        second_name,
-        second,
-        second_digest,
-        out,
-    );
-    let said = line::say(verb, came, first_name, first, second_name, second, err);
+    let first = File {
+        name: first_name,
+        bytes: first,
+        digest: first_digest,
+    };
+    let second = File {
+        name: second_name,
+        bytes: second,
+        digest: second_digest,
+    };
+    let came = work::work(verb, first, second, out);
     Ended {
-        status: line::status(came),
-        out: line::count(came),
-        err: said,
+        status: came.status(),
+        out: came.count(),
+        err: line::say(verb, came, first, second, err),
     }
 }

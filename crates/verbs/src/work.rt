@@ -9,41 +9,47 @@ ghost use Rattle.page.specs.Files.{file};
 ghost use Rattle.verbs.specs.Result.{unless, no_number, Gives, of_outcome, of_noticed, of_paged};
 ghost use Rattle.verbs.specs.Run.{accepted_line, Does};
 
-use crate::{Came, Verb, samples, shown};
+use crate::{Came, File, Verb, samples, shown};
 use buffer::{OUTPUT_TOO_SHORT, Outcome, Verdict};
 use notice::Noticed;
 use page::Paged;
 
 // What a writer answered on the first file.
-pub(crate) fn of_outcome(outcome: Outcome) -> Came
-    ensures { result ≡ of_outcome outcome }
-{
-    match outcome {
-        Outcome::Done(length) => Came::Done(length),
-        Outcome::Refused(number, place) => Came::First(number, place),
+impl From<Outcome> for Came {
+    ghost from_gives = { λ outcome came. came ≡ of_outcome outcome };
+
+    fn from(outcome: Outcome) -> Came {
+        match outcome {
+            Outcome::Done(length) => Came::Done(length),
+            Outcome::Refused(number, place) => Came::First(number, place),
+        }
     }
 }
 
-fn of_noticed(noticed: Noticed) -> Came
-    ensures { result ≡ of_noticed noticed }
-{
-    match noticed {
-        Noticed::Done(length) => Came::Done(length),
-        Noticed::Old(number, place) => Came::First(number, place),
-        Noticed::New(number, place) => Came::Second(number, place),
-        Noticed::Short(needed) => Came::First(OUTPUT_TOO_SHORT, needed),
+impl From<Noticed> for Came {
+    ghost from_gives = { λ noticed came. came ≡ of_noticed noticed };
+
+    fn from(noticed: Noticed) -> Came {
+        match noticed {
+            Noticed::Done(length) => Came::Done(length),
+            Noticed::Old(number, place) => Came::First(number, place),
+            Noticed::New(number, place) => Came::Second(number, place),
+            Noticed::Short(needed) => Came::First(OUTPUT_TOO_SHORT, needed),
+        }
     }
 }
 
-fn of_paged(paged: Paged) -> Came
-    ensures { result ≡ of_paged paged }
-{
-    match paged {
-        Paged::Done(length) => Came::Done(length),
-        Paged::Old(number, place) => Came::First(number, place),
-        Paged::New(number, place) => Came::Second(number, place),
-        Paged::Short(needed) => Came::First(OUTPUT_TOO_SHORT, needed),
-        Paged::TooLong => Came::NoCall,
+impl From<Paged> for Came {
+    ghost from_gives = { λ paged came. came ≡ of_paged paged };
+
+    fn from(paged: Paged) -> Came {
+        match paged {
+            Paged::Done(length) => Came::Done(length),
+            Paged::Old(number, place) => Came::First(number, place),
+            Paged::New(number, place) => Came::Second(number, place),
+            Paged::Short(needed) => Came::First(OUTPUT_TOO_SHORT, needed),
+            Paged::TooLong => Came::NoCall,
+        }
     }
 }
 
@@ -65,7 +71,7 @@ fn check(name: &[u8], sheet: &[u8], out: &mut [u8]) -> Came
 {
     match sheet::check(sheet) {
         Verdict::Refused(number, place) => Came::First(number, place),
-        Verdict::Accepted => of_outcome(put_two(out, name, b": accepted\n")),
+        Verdict::Accepted => Came::from(put_two(out, name, b": accepted\n")),
     }
 }
 
@@ -79,42 +85,33 @@ fn section(sheet: &[u8], number: &[u8], out: &mut [u8]) -> Came
         Verdict::Refused(fault, place) => Came::First(fault, place),
         Verdict::Accepted => {
             let part = sheet::section(sheet, decimal::section_asked(number));
-            of_outcome(buffer::put_bytes(out, part))
+            Came::from(buffer::put_bytes(out, part))
         }
     }
 }
 
 // What a verb comes to.
-pub(crate) fn work(
-    verb: Verb,
-    first_name: &[u8],
-    first: &[u8],
-    first_digest: &[u8],
-    second_name: &[u8],
-    second: &[u8],
-    second_digest: &[u8],
-    out: &mut [u8],
-) -> Came
-    ensures { Does verb (file first_name.now first.now first_digest.now) (file second_name.now second.now second_digest.now) out.old result out.new }
+pub(crate) fn work(verb: Verb, first: File, second: File, out: &mut [u8]) -> Came
+    ensures { Does verb (file first.entry.name.now first.entry.bytes.now first.entry.digest.now) (file second.entry.name.now second.entry.bytes.now second.entry.digest.now) out.old result out.new }
 {
     match verb {
-        Verb::Check => check(first_name, first, out),
-        Verb::Section => section(first, second, out),
-        Verb::Compile => of_outcome(compiler::compile(first, out)),
-        Verb::Read => of_outcome(reader::read(first, out)),
-        Verb::Notice => of_noticed(notice::notice(first, second, out)),
-        Verb::Page => of_paged(page::page(
-            first_name,
-            first,
-            first_digest,
-            second_name,
-            second,
-            second_digest,
+        Verb::Check => check(first.name, first.bytes, out),
+        Verb::Section => section(first.bytes, second.bytes, out),
+        Verb::Compile => Came::from(compiler::compile(first.bytes, out)),
+        Verb::Read => Came::from(reader::read(first.bytes, out)),
+        Verb::Notice => Came::from(notice::notice(first.bytes, second.bytes, out)),
+        Verb::Page => Came::from(page::page(
+            first.name,
+            first.bytes,
+            first.digest,
+            second.name,
+            second.bytes,
+            second.digest,
             out,
         )),
-        Verb::Show => shown::sheet(first, out),
-        Verb::ShowCommands => shown::commands(first, out),
-        Verb::Bench => samples::bench(first, second, out),
+        Verb::Show => shown::sheet(first.bytes, out),
+        Verb::ShowCommands => shown::commands(first.bytes, out),
+        Verb::Bench => samples::bench(first.bytes, second.bytes, out),
         Verb::Nothing => Came::NoCall,
     }
 }

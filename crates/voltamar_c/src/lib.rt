@@ -30,6 +30,7 @@ pub extern "C" fn voltamar_check(sheet: &[u8], place: &mut usize) -> u8
 }
 
 // Where the part of the sheet lies that holds a section's records.
+#[tactic(auto, unfolding(sheet::specs::Parts::span_of))]
 #[unsafe(no_mangle)]
 pub extern "C" fn voltamar_section(
     sheet: &[u8],
@@ -41,7 +42,7 @@ pub extern "C" fn voltamar_section(
     ensures start_after { start.new ≡ part_start sheet.now number }
     ensures size_after { size.new ≡ length (section_of sheet.now number) }
 {
-    let span = sheet::section_span(sheet, number as usize);
+    let span = sheet::section_span(sheet, usize::from(number));
     *start = span.start;
     *size = span.size;
     span.refusal

@@ -1,9 +1,6 @@
--- `agreement::compare_all` is safe and ends: no more agree than there are cases, and the cases rise to a bound. Assumes nothing.
-use Rattle.std.proofs.Common.{◌-◌, ◌≤◌}
+-- `agreement::compare_all` is safe and ends: no more agree than there are cases. Assumes nothing.
+use Rattle.std.proofs.Common.{◌≤◌}
 use Rattle.agreement.proofs.tally.compare_all.Given as goal
 
-abbrev pub invariant-loop-cases : goal.invariant-loop-cases
-invariant-loop-cases l = l.agree ≤ l.cases
-
-abbrev pub decreases-loop-cases : goal.decreases-loop-cases
-decreases-loop-cases l = 1000000 - l.cases
+abbrev pub invariant-loop-i : goal.invariant-loop-i
+invariant-loop-i l = l.tally.agree ≤ l.i

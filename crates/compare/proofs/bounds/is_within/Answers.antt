@@ -1,0 +1,9 @@
+-- `compare::is_within` meets its contract. Assumes nothing.
+use borrow.Author.Tests.{le-leb, lt-leb}
+use Rattle.compare.proofs.bounds.is_within.Goals as goal
+
+pub returns-then-b-low : goal.returns-then-b-low
+returns-then-b-low c = simp (lt-leb _ _ c.if-b-low.true)
+
+pub returns : goal.returns
+returns c = simp (le-leb _ _ c.if-b-low.false)

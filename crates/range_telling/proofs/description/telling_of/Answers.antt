@@ -1,0 +1,6 @@
+use Rattle.range_telling.specs.Description.{telling}
+use Rattle.range_telling.proofs.description.telling_of.Goals as goal
+
+pub returns-clause-value : goal.returns-clause-value
+unfolding telling
+returns-clause-value c = rw (c.from_bytes.ensures, c.from_bytes-2.ensures) at c.range_telling.ensures.value
