@@ -21,9 +21,15 @@ changed k d e bd be c =
     }
 
 -- an answer that is the definition's has its meaning [D3.5, D3.6]
-pub told : (k : ℕ) (d e : List ℕ) (r : Telling) → ((i : ℕ) → Fits w8 (get_or d i 0)) → ((i : ℕ) → Fits w8 (get_or e i 0)) → r ≡ telling_of k d e
+pub told : (k : ℕ) (d e : List ℕ) (r : Telling) → Bytes d → Bytes e → r ≡ telling_of k d e
+    → (r ≡ telling_of k d e) × (Differ k d e → Says (shows_of k d) (shows_of k e) r)
+told k d e r bd be q =
+    (q, λ c. subst (Says (shows_of k d) (shows_of k e)) (sym q) (telling_says k c.known d e (changed k d e bd be c)))
+
+-- the same over lent bytes
+pub told_means : (k : ℕ) (d e : List ℕ) (r : Telling) → ((i : ℕ) → Fits w8 (get_or d i 0)) → ((i : ℕ) → Fits w8 (get_or e i 0)) → r ≡ telling_of k d e
     → Differ k d e → Says (shows_of k d) (shows_of k e) r
-told k d e r fd fe q c =
+told_means k d e r fd fe q =
     let bd : Bytes d = λ i. omega (arith, fd i) in
     let be : Bytes e = λ i. omega (arith, fe i) in
-    subst (Says (shows_of k d) (shows_of k e)) (sym q) (telling_says k c.known d e (changed k d e bd be c))
+    (told k d e r bd be q).1

@@ -79,3 +79,7 @@ check_numbered s r e =
       place = ap verdict_place e;
       none = (λ z. accepted_numbered s (sym number ∙ z), λ a. number ∙ ap verdict_number a);
     }
+
+-- and it is the verdict
+pub check_meets : (s : List ℕ) (r : Verdict) → r ≡ verdict s → (r ≡ verdict s) × VerdictNumbered (verdict s) r
+check_meets s r e = (e, check_numbered s r e)

@@ -4,7 +4,7 @@ use faults::Cursor;
 use peek::field;
 use records::{description, label, record_size, slot};
 use std::fmt::{self, Write};
-use text::{Line, Plain, Section};
+use text::{Hex8, Line, Padded, Plain, Section};
 
 // The lines of the first `end` bytes, which are whole counts and records.
 pub fn put_sheet(line: &mut Line, sheet: &[u8], end: usize) -> fmt::Result {
@@ -18,7 +18,7 @@ pub fn put_sheet(line: &mut Line, sheet: &[u8], end: usize) -> fmt::Result {
 
 fn put_place(line: &mut Line, sheet: &[u8], here: Cursor) -> fmt::Result {
     let bytes = peek::suffix(sheet, here.at);
-    write!(line, "{:4}  ", here.at)?;
+    write!(line, "{}  ", Padded(here.at))?;
     match here.record {
         None => put_count(line, here.section, peek::byte_at(bytes, 0))?,
         Some(_) => put_record(
@@ -35,7 +35,8 @@ fn put_count(line: &mut Line, section: usize, count: u8) -> fmt::Result {
 }
 
 fn put_record(line: &mut Line, section: usize, record: &[u8]) -> fmt::Result {
-    write!(line, "slot {} \"{}\"", slot(record), Plain(label(record)))?;
+    write!(line, "slot {} ", slot(record))?;
+    write!(line, "\"{}\"", Plain(label(record)))?;
     put_description(line, section, description(record))
 }
 
@@ -51,26 +52,23 @@ fn put_description(line: &mut Line, section: usize, description: &[u8]) -> fmt::
 }
 
 fn put_term(line: &mut Line, description: &[u8]) -> fmt::Result {
-    let target = field(description, 0);
-    let mask = field(description, 1);
-    write!(line, " target {target:08X} mask {mask:08X}")
+    let target = Hex8(field(description, 0));
+    let mask = Hex8(field(description, 1));
+    write!(line, " target {target} mask {mask}")
 }
 
 fn put_range(line: &mut Line, description: &[u8]) -> fmt::Result {
-    let lower = field(description, 0);
-    let upper = field(description, 1);
-    let mask = field(description, 2);
-    write!(line, " lower {lower:08X} upper {upper:08X} mask {mask:08X}")
+    let lower = Hex8(field(description, 0));
+    let upper = Hex8(field(description, 1));
+    let mask = Hex8(field(description, 2));
+    write!(line, " lower {lower} upper {upper} mask {mask}")
 }
 
 fn put_edge(line: &mut Line, description: &[u8]) -> fmt::Result {
-    let rise = field(description, 0);
-    let fall = field(description, 1);
-    let neither = field(description, 2);
-    write!(
-        line,
-        " rise {rise:08X} fall {fall:08X} neither {neither:08X}"
-    )
+    let rise = Hex8(field(description, 0));
+    let fall = Hex8(field(description, 1));
+    let neither = Hex8(field(description, 2));
+    write!(line, " rise {rise} fall {fall} neither {neither}")
 }
 
 fn put_operations(line: &mut Line, operations: &[u8]) -> fmt::Result {

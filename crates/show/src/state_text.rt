@@ -1,11 +1,11 @@
 // A state as text: its number, its else state, and the flags that are set.
 use std::fmt::{self, Write};
-use text::{ELSE_STATE, FLAGS, Line};
+use text::{ELSE_STATE, FLAGS, Hex8, Line};
 
 pub(crate) fn put_state(line: &mut Line, description: &[u8]) -> fmt::Result {
-    let number = peek::u32_at(description, 0);
+    let number = Hex8(peek::u32_at(description, 0));
     let branch = peek::byte_at(description, ELSE_STATE);
-    write!(line, " number {number:08X} else {branch} flags")?;
+    write!(line, " number {number} else {branch} flags")?;
     put_flags(line, peek::suffix(description, FLAGS))
 }
 

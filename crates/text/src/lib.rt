@@ -9,7 +9,7 @@ mod written;
 pub use names::{
     ELSE_STATE, FLAGS, flag_name, operation_name, section_at, section_name, source_name, stage_name,
 };
-pub use written::{Line, Plain};
+pub use written::{Hex2, Hex8, Line, Padded, Plain};
 
 // The sections, for what is said of each: a match on them has no default, so that a new section has its words or is
 // refused by the compiler.

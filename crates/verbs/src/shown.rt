@@ -7,7 +7,7 @@ ghost use Rattle.verbs.specs.Result.{Shows};
 use crate::Came;
 use buffer::{Outcome, Verdict};
 use std::fmt::{self, Write};
-use text::{Line, Plain};
+use text::{Line, Padded, Plain};
 
 // Longer than any refusal in words.
 const WORDS: usize = 128;
@@ -18,7 +18,8 @@ fn put_fault(line: &mut Line, number: u8, place: usize) -> fmt::Result {
     let length = refusal::put_refusal(&mut words, 0, number, place);
     writeln!(
         line,
-        "{place:4}  *** {}",
+        "{}  *** {}",
+        Padded(place),
         Plain(peek::prefix(&words, length))
     )
 }
