@@ -54,15 +54,15 @@ struct Underway {
 
 // Where a run stands after a sample.
 #[derive(Clone, Copy)]
-struct Moved {
-    state: u32,
-    count: u32,
-    ended: bool,
+pub struct Moved {
+    pub state: u32,
+    pub count: u32,
+    pub ended: bool,
 }
 
 // What the walk over the samples leaves: how many were taken, and the run after the last one that was looked at.
 #[derive(Clone, Copy)]
-struct Walked {
-    taken: usize,
-    run: Run,
+pub struct Walked {
+    pub taken: usize,
+    pub run: Run,
 }

@@ -9,7 +9,12 @@ const COUNT_TOO_BIG: u8 = 2;
 const LEFT_OVER: u8 = 11;
 
 // What is wrong in a sheet that `sheet::check` refuses with this number and place.
-pub fn put_sheet_detail(line: &mut Line, sheet: &[u8], number: u8, place: usize) -> fmt::Result {
+pub fn put_sheet_detail(line: &mut Line, sheet: &[u8], number: u8, place: usize) {
+    // A line takes what there is room for, and never fails.
+    let _ = put_detail(line, sheet, number, place);
+}
+
+fn put_detail(line: &mut Line, sheet: &[u8], number: u8, place: usize) -> fmt::Result {
     let there = peek::byte_at(sheet, place);
     if number == LEFT_OVER {
         return write!(line, "byte {there:02X} hex after the last section");

@@ -6,14 +6,18 @@ use std::fmt::{self, Write};
 use text::{Hex2, Hex8, Line, Padded};
 
 // The lines of the first `end` bytes, which are whole commands.
-pub fn put_commands(line: &mut Line, stream: &[u8], end: usize) -> fmt::Result {
+pub fn put_commands(line: &mut Line, stream: &[u8], end: usize) {
     let commands = peek::prefix(stream, end).chunks(COMMAND_SIZE);
     for (i, command) in commands.enumerate() {
-        write!(line, "{}", Padded(COMMAND_SIZE * i))?;
-        put_bytes(line, command);
-        put_meaning(line, command)?;
+        // A line takes what there is room for, and never fails.
+        let _ = put_command(line, command, COMMAND_SIZE * i);
     }
-    Ok(())
+}
+
+fn put_command(line: &mut Line, command: &[u8], offset: usize) -> fmt::Result {
+    write!(line, "{}", Padded(offset))?;
+    put_bytes(line, command);
+    put_meaning(line, command)
 }
 
 // Most of the text is made here: by hand it takes half the time.

@@ -7,13 +7,13 @@ use std::fmt::{self, Write};
 use text::{Hex8, Line, Padded, Plain, Section};
 
 // The lines of the first `end` bytes, which are whole counts and records.
-pub fn put_sheet(line: &mut Line, sheet: &[u8], end: usize) -> fmt::Result {
+pub fn put_sheet(line: &mut Line, sheet: &[u8], end: usize) {
     let mut here = Cursor::start();
     while here.at < end {
-        put_place(line, sheet, here)?;
+        // A line takes what there is room for, and never fails.
+        let _ = put_place(line, sheet, here);
         here = here.next(sheet, end);
     }
-    Ok(())
 }
 
 fn put_place(line: &mut Line, sheet: &[u8], here: Cursor) -> fmt::Result {

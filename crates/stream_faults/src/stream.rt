@@ -32,7 +32,12 @@ fn behind(chain: Option<Chain>, command: &[u8]) -> Option<Chain> {
 }
 
 // What is wrong in a stream that `reader::read` refuses with this number and place: what stands there, and behind what.
-pub fn put_stream_detail(line: &mut Line, stream: &[u8], number: u8, place: usize) -> fmt::Result {
+pub fn put_stream_detail(line: &mut Line, stream: &[u8], number: u8, place: usize) {
+    // A line takes what there is room for, and never fails.
+    let _ = put_detail(line, stream, number, place);
+}
+
+fn put_detail(line: &mut Line, stream: &[u8], number: u8, place: usize) -> fmt::Result {
     let command = peek::suffix(stream, place);
     let chain = chain_before(stream, place);
     match number {

@@ -46,7 +46,7 @@ fn put_too_many(line: &mut Line) -> fmt::Result {
 }
 
 // What stands at a place of the first file, which is a sheet but for two verbs.
-fn put_first(line: &mut Line, verb: Verb, bytes: &[u8], number: u8, place: usize) -> fmt::Result {
+fn put_first(line: &mut Line, verb: Verb, bytes: &[u8], number: u8, place: usize) {
     match verb {
         Verb::Read | Verb::ShowCommands => {
             stream_faults::put_stream_detail(line, bytes, number, place)
@@ -58,21 +58,21 @@ fn put_first(line: &mut Line, verb: Verb, bytes: &[u8], number: u8, place: usize
         | Verb::Page
         | Verb::Show
         | Verb::Bench => faults::put_sheet_detail(line, bytes, number, place),
-        Verb::Nothing => Ok(()),
+        Verb::Nothing => {}
     }
 }
 
 // What stands at a place of the second file, which is a sheet, or the samples.
-fn put_second(line: &mut Line, bytes: &[u8], number: u8, place: usize) -> fmt::Result {
+fn put_second(line: &mut Line, bytes: &[u8], number: u8, place: usize) {
     if number == bench::TOO_MANY_SAMPLES {
-        put_too_many(line)
+        let _ = put_too_many(line);
     } else {
         faults::put_sheet_detail(line, bytes, number, place)
     }
 }
 
 // The line of a refusal, with what `put` says of the place.
-fn say_refusal<F: FnOnce(&mut Line) -> fmt::Result>(
+fn say_refusal<F: FnOnce(&mut Line)>(
     err: &mut [u8],
     name: &[u8],
     number: u8,
@@ -84,7 +84,7 @@ fn say_refusal<F: FnOnce(&mut Line) -> fmt::Result>(
 {
     let mut detail = [0u8; DETAIL];
     let mut line = Line::new(&mut detail);
-    let _ = put(&mut line);
+    put(&mut line);
     let length = line.len();
     refusal::put_line(err, 0, name, number, place, peek::prefix(&detail, length))
 }

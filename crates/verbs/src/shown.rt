@@ -25,23 +25,18 @@ fn put_fault(line: &mut Line, number: u8, place: usize) -> fmt::Result {
 }
 
 // What comes of a text of which `put` writes so many bytes: all of them, or those before the fault.
-fn shown<F: FnOnce(&mut Line, usize) -> fmt::Result>(
-    out: &mut [u8],
-    verdict: Verdict,
-    all: usize,
-    put: F,
-) -> Came
+fn shown<F: FnOnce(&mut Line, usize)>(out: &mut [u8], verdict: Verdict, all: usize, put: F) -> Came
     requires { F.IsAlwaysCallable put }
     ensures { Shows verdict out.old result }
 {
     let mut line = Line::new(out);
     match verdict {
         Verdict::Accepted => {
-            let _ = put(&mut line, all);
+            put(&mut line, all);
             Came::Done(line.len().min(out.len()))
         }
         Verdict::Refused(number, place) => {
-            let _ = put(&mut line, place);
+            put(&mut line, place);
             let _ = put_fault(&mut line, number, place);
             Came::Shown(line.len().min(out.len()), number, place)
         }
