@@ -1,4 +1,4 @@
-// Where text goes, and the values that stand in it as one piece each.
+// Where text goes, and the values that are put into it.
 ghost use Rattle.std.specs.Prelude.{◌≡◌, ◌<◌};
 ghost use Rattle.buffer.specs.Room.{Put};
 
@@ -45,18 +45,29 @@ impl fmt::Write for Line<'_> {
 // Longer than any label, and than any refusal in words.
 const PIECE: usize = 128;
 
-// Bytes as people see them, in one piece: one that is not printable ASCII is a question mark.
+// Bytes as people see them: one that is not printable ASCII is a question mark. Up to PIECE of them are one piece.
 #[derive(Clone, Copy)]
 pub struct Plain<'a>(pub &'a [u8]);
 
 impl fmt::Display for Plain<'_> {
     fn fmt<W: Write>(&self, f: &mut fmt::Formatter<W>) -> fmt::Result {
+        if PIECE < self.0.len() {
+            return put_long(self.0, f);
+        }
         let mut room = [0u8; PIECE];
         for (to, byte) in room.iter_mut().zip(self.0) {
             *to = shown(*byte);
         }
-        f.write_str(ascii(first_of(&room, self.0.len())))
+        f.write_str(ascii(&room[..self.0.len()]))
     }
+}
+
+// Bytes that are too many for one piece: each by itself.
+fn put_long<W: Write>(bytes: &[u8], f: &mut fmt::Formatter<W>) -> fmt::Result {
+    for byte in bytes {
+        f.write_char(char::from(shown(*byte)))?;
+    }
+    Ok(())
 }
 
 fn shown(byte: u8) -> u8 {
@@ -65,11 +76,6 @@ fn shown(byte: u8) -> u8 {
     } else {
         b'?'
     }
-}
-
-// The first n bytes, or all where there are fewer.
-fn first_of(bytes: &[u8], n: usize) -> &[u8] {
-    &bytes[..n.min(bytes.len())]
 }
 
 // Bytes that are all ASCII, as text.
@@ -131,5 +137,61 @@ impl fmt::Display for Padded {
             _ => "",
         })?;
         write!(f, "{}", self.0)
+    }
+}
+
+#[cfg(test)]
+mod tests {
+    use super::*;
+    use std::process::Abort;
+
+    // Of a text that has all bytes, the first `n` are put into so much room: how many stand there, and nothing behind.
+    fn assert_put(rt: &impl Abort, n: usize, room: usize, stand: usize) {
+        let mut text = [0u8; 256];
+        for (i, byte) in text.iter_mut().enumerate() {
+            *byte = byte_at(i);
+        }
+        let mut lent = [0u8; 256];
+        let mut line = Line::new(&mut lent[..room.min(256)]);
+        let _ = write!(line, "{}", Plain(first_of(&text, n)));
+        assert_eq!(rt; line.len(), stand, "{n} bytes in {room}");
+        for (i, byte) in lent.iter().enumerate() {
+            let expected = if i < stand { seen(byte_at(i)) } else { 0 };
+            assert_eq!(rt; *byte, expected, "byte {i} of {n} in {room}");
+        }
+    }
+
+    fn byte_at(i: usize) -> u8 {
+        (i % 256 * 37 % 256) as u8
+    }
+
+    fn first_of(bytes: &[u8], n: usize) -> &[u8] {
+        &bytes[..n.min(bytes.len())]
+    }
+
+    fn seen(value: u8) -> u8 {
+        match value {
+            0x20..=0x7e => value,
+            _ => 0x3f,
+        }
+    }
+
+    #[test]
+    fn a_text_of_any_length_is_put(rt: HostRuntime) {
+        for n in [0, 1, 127, 128, 129, 255, 256] {
+            assert_put(&rt, n, n, n);
+            assert_put(&rt, n, 256, n);
+        }
+    }
+
+    #[test]
+    fn a_text_of_one_piece_is_left_out_whole(rt: HostRuntime) {
+        assert_put(&rt, 128, 127, 0);
+    }
+
+    #[test]
+    fn a_longer_text_is_put_as_far_as_there_is_room(rt: HostRuntime) {
+        assert_put(&rt, 129, 5, 5);
+        assert_put(&rt, 256, 255, 255);
     }
 }
