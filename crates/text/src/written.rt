@@ -145,7 +145,7 @@ mod tests {
     use super::*;
     use std::process::Abort;
 
-    // Of a text that has all bytes, the first `n` are put into so much room: how many stand there, and nothing behind.
+    // The first `n` of a text that has each byte go into `room` bytes: `stand` of them stand there, and nothing behind.
     fn assert_put(rt: &impl Abort, n: usize, room: usize, stand: usize) {
         let mut text = [0u8; 256];
         for (i, byte) in text.iter_mut().enumerate() {
@@ -153,7 +153,7 @@ mod tests {
         }
         let mut lent = [0u8; 256];
         let mut line = Line::new(&mut lent[..room.min(256)]);
-        let _ = write!(line, "{}", Plain(first_of(&text, n)));
+        let _ = write!(line, "{}", Plain(&text[..n.min(256)]));
         assert_eq!(rt; line.len(), stand, "{n} bytes in {room}");
         for (i, byte) in lent.iter().enumerate() {
             let expected = if i < stand { seen(byte_at(i)) } else { 0 };
@@ -163,10 +163,6 @@ mod tests {
 
     fn byte_at(i: usize) -> u8 {
         (i % 256 * 37 % 256) as u8
-    }
-
-    fn first_of(bytes: &[u8], n: usize) -> &[u8] {
-        &bytes[..n.min(bytes.len())]
     }
 
     fn seen(value: u8) -> u8 {
